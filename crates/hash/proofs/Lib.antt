@@ -1,0 +1,5 @@
+-- Laws about the definitions of specs/. Crates above cite Promises alone.
+mod Schedule
+mod Padding
+mod Refusals
+pub mod Promises

@@ -1,0 +1,39 @@
+-- What the layers above may use of SHA-256 beside the contracts: its values are 32 bytes. Assumes nothing.
+use mathlib.Core.Path.{_≡_, refl}
+use mathlib.Core.List.{List, [], _∷_}
+use Prim.Native.Nat.{ℕ, zero, suc, _/_, _%_, _^_, _<_}
+use native.Mathlib.Omega.{arith}
+use lib.ListN.{length, getD}
+use Rattle.hash.specs.declared.State.{State}
+use Rattle.hash.specs.Words.{wordBytes}
+use Rattle.hash.specs.Sha256.{compress, initial}
+use Rattle.hash.specs.Message.{hashValue, stateBytes}
+use Rattle.hash.specs.Digest.{sha256}
+
+pub sha256-length : (m : List ℕ) → length (sha256 m) ≡ 32
+unfolding sha256 stateBytes
+sha256-length m = refl
+
+data Bytes : List ℕ → Type 0 where
+  none : Bytes []
+  one : {b : ℕ} {l : List ℕ} → b < 256 → Bytes l → Bytes (b ∷ l)
+
+at : {l : List ℕ} → Bytes l → (i : ℕ) → getD l i 0 < 256
+at none i = omega arith
+at (one h k) zero = h
+at (one h k) (suc i) = at k i
+
+low : (y : ℕ) → y % 256 < 256
+low y = omega arith
+
+word-bytes : (x : ℕ) {l : List ℕ} → Bytes l → Bytes (wordBytes x l)
+word-bytes x k = one (low (x / 2 ^ 24)) (one (low (x / 2 ^ 16)) (one (low (x / 2 ^ 8)) (one (low x) k)))
+
+state-bytes : (s : State) → Bytes (stateBytes s)
+unfolding stateBytes
+state-bytes s =
+    word-bytes (s .a) (word-bytes (s .b) (word-bytes (s .c) (word-bytes (s .d) (word-bytes (s .e) (word-bytes (s .f) (word-bytes (s .g) (word-bytes (s .h) none)))))))
+
+pub sha256-bytes : (m : List ℕ) (i : ℕ) → getD (sha256 m) i 0 < 256
+unfolding sha256
+sha256-bytes m = at (state-bytes (hashValue compress initial m))

@@ -1,0 +1,108 @@
+-- The message schedule and the rounds: section 6.2.2's equations, and how the code comes by them, eight words and eight rounds at a time. Assumes nothing.
+use mathlib.Core.Bool.{Bool, true, false, cond}
+use mathlib.Core.Path.{_≡_, refl, sym, _∙_}
+use mathlib.Core.Logic.{⊎-elim}
+use mathlib.Core.List.{List, [], _∷_, _++_}
+use Prim.Native.Nat.{ℕ, zero, suc, _+_, _-_, _<_}
+use native.Mathlib.Nat.{le-of-suc-le-suc, not-suc-le-zero, eq-or-lt-of-le, add-suc}
+use native.Mathlib.Numerals.{add-one}
+use native.Mathlib.Omega.{arith}
+use lib.ListN.{length, getD, set, length-append, List·getD-append}
+use lib.Seq.{getD-at, getD-set-same, getD-set-other, ext-getD}
+use lib.Dec.{ltb}
+use borrow.Author.Tests.{ltb-true, lt-ltb, le-ltb}
+use borrow.Author.Count.{below-more}
+use Rattle.hash.specs.declared.State.{State}
+use Rattle.hash.specs.Sha256.{constants, nextWord, wordAfter, schedule, word, rounds, round, compress, addState}
+use Rattle.hash.specs.Inner.{Known, Scheduled, eightFrom}
+
+-- ---- a list whose first elements are known, by one more
+pub grow : (c : List ℕ) (g : ℕ → ℕ) (n v : ℕ) → n < length c → Known c g n → v ≡ g n → Known (set c n v) g (n + 1)
+grow c g n v h k e =
+    below-more (λ (j : ℕ). getD (set c n v) j 0 ≡ g j) n (λ j l. getD-set-other c n j v 0 (λ (q : j ≡ n). omega arith) ∙ k j l) (getD-set-same c n v 0 h ∙ e)
+
+-- ---- the schedule as a list, and word by word
+
+schedule-length : (x : ℕ → ℕ) (n : ℕ) → length (schedule x n) ≡ n
+unfolding schedule
+schedule-length x zero = refl
+schedule-length x (suc n) = let e : length (schedule x n) ≡ n = schedule-length x n in rw length-append (omega arith)
+
+word-at : (x : ℕ → ℕ) (n t : ℕ) → t < n → getD (schedule x n) t 0 ≡ word x t
+unfolding schedule word
+word-at x zero t l = absurd (not-suc-le-zero l)
+word-at x (suc n) t l =
+    ⊎-elim
+    (λ (e : t ≡ n). rw e (getD-at (schedule x n) _ [] 0 n (schedule-length x n)))
+    (λ (k : t < n). List·getD-append (schedule x n) _ 0 t (rw (schedule-length x n) k) ∙ word-at x n t k)
+    (eq-or-lt-of-le (le-of-suc-le-suc l))
+
+pub whole : (w : List ℕ) (x : ℕ → ℕ) → length w ≡ 64 → Scheduled w x 64 → w ≡ schedule x 64
+whole w x l k =
+    ext-getD 0 w (schedule x 64) (l ∙ sym (schedule-length x 64)) (λ i h. let m : i < 64 = omega (arith, l) in k i m m ∙ sym (word-at x 64 i m))
+
+-- ---- 6.2.2, step 1, as the document has it
+
+pub word-first : (x : ℕ → ℕ) (t : ℕ) → t < 16 → word x t ≡ x t
+unfolding word wordAfter
+word-first x t l = rw (lt-ltb _ _ l)
+
+word-late : (x : ℕ → ℕ) (t : ℕ) → 15 < t → (ws : List ℕ)
+    → wordAfter x ws t ≡ nextWord (getD ws (t - 2) 0) (getD ws (t - 7) 0) (getD ws (t - 15) 0) (getD ws (t - 16) 0)
+unfolding wordAfter
+word-late x t l ws = rw (le-ltb _ _ l)
+
+pub word-later : (x : ℕ → ℕ) (t : ℕ) → 15 < t → word x t ≡ nextWord (word x (t - 2)) (word x (t - 7)) (word x (t - 15)) (word x (t - 16))
+unfolding word
+word-later x t l =
+    word-late x t l (schedule x t) ∙
+    rw (word-at x t (t - 2) (omega arith), word-at x t (t - 7) (omega arith), word-at x t (t - 15) (omega arith), word-at x t (t - 16) (omega arith))
+
+-- the block's own words, and one word more
+pub scheduled-first : (w : List ℕ) (x : ℕ → ℕ) → Known w x 16 → Scheduled w x 16
+scheduled-first w x k j h l = k j l ∙ sym (word-first x j l)
+
+pub scheduled-more : (w : List ℕ) (x : ℕ → ℕ) (u : ℕ) → 15 < u → u < 64 → length w ≡ 64 → Scheduled w x u
+    → Scheduled (set w u (nextWord (getD w (u - 2) 0) (getD w (u - 7) 0) (getD w (u - 15) 0) (getD w (u - 16) 0))) x (u + 1)
+scheduled-more w x u h m l k =
+    let v : nextWord (getD w (u - 2) 0) (getD w (u - 7) 0) (getD w (u - 15) 0) (getD w (u - 16) 0) ≡ word x u =
+    rw (k (u - 2) (omega arith) (omega arith), k (u - 7) (omega arith) (omega arith), k (u - 15) (omega arith) (omega arith), k (u - 16) (omega arith) (omega arith)) (sym (word-later x u h)) in
+    λ j _ n. grow w (word x) u _ (omega arith) (λ i o. k i (omega arith) o) v j n
+
+-- ---- eight rounds more
+
+rounds-eight : (f : ℕ → ℕ) (s : State) (t : ℕ) → rounds f s (t + 8) ≡
+    round (round (round (round (round (round (round (round (rounds f s t) (getD constants t 0) (f t)) (getD constants (t + 1) 0) (f (t + 1))) (getD constants (t + 2) 0) (f (t + 2))) (getD constants (t + 3) 0) (f (t + 3))) (getD constants (t + 4) 0) (f (t + 4))) (getD constants (t + 5) 0) (f (t + 5))) (getD constants (t + 6) 0) (f (t + 6))) (getD constants (t + 7) 0) (f (t + 7))
+unfolding rounds
+rounds-eight f s t = rw (add-suc t 7, add-suc t 6, add-suc t 5, add-suc t 4, add-suc t 3, add-suc t 2, add-suc t 1, add-one t)
+
+pub eight-more : (w : List ℕ) (x : ℕ → ℕ) (s : State) (t : ℕ) → t < 57 → Scheduled w x (t + 16)
+    → eightFrom constants w (rounds (word x) s t) t ≡ rounds (word x) s (t + 8)
+eight-more w x s t h k =
+    let near : (i : ℕ) → i < 8 → getD w (t + i) 0 ≡ word x (t + i) = λ i l. k (t + i) (omega arith) (omega arith) in
+    rw (rounds-eight (word x) s t, k t (omega arith) (omega arith), near 1 (omega arith), near 2 (omega arith), near 3 (omega arith), near 4 (omega arith), near 5 (omega arith), near 6 (omega arith), near 7 (omega arith))
+
+-- ---- the block step goes by a block's sixteen words alone
+
+same-if : (b : Bool) (p q z : ℕ) → (b ≡ true → p ≡ q) → cond b p z ≡ cond b q z
+same-if true p q z f = f refl
+same-if false p q z f = refl
+
+module _ (x y : ℕ → ℕ) (e : (t : ℕ) → t < 16 → x t ≡ y t) where
+  word-same : (ws : List ℕ) (t : ℕ) → wordAfter x ws t ≡ wordAfter y ws t
+  unfolding wordAfter
+  word-same ws t = same-if (ltb t 16) (x t) (y t) _ (λ h. e t (ltb-true t 16 h))
+
+  schedule-same : (n : ℕ) → schedule x n ≡ schedule y n
+  unfolding schedule
+  schedule-same zero = refl
+  schedule-same (suc n) = rw (schedule-same n, word-same (schedule y n) n)
+
+  rounds-same : (s : State) (n : ℕ) → rounds (word x) s n ≡ rounds (word y) s n
+  unfolding rounds word
+  rounds-same s zero = refl
+  rounds-same s (suc n) = rw (rounds-same s n, schedule-same n, word-same (schedule y n) n)
+
+  pub compress-same : (s : State) → compress s x ≡ compress s y
+  unfolding compress
+  compress-same s = rw (rounds-same s 64)

@@ -1,0 +1,13 @@
+use borrow.Author.Needs.{needs}
+use mathlib.Core.Path.{_∙_, ap}
+use Rattle.hash.specs.Message.{stateBytes}
+use Rattle.hash.specs.Digest.{sha256}
+use Rattle.hash.proofs.node.Statement.{statement}
+use Rattle.hash.proofs.node.Tie as tie
+
+returns : tie.Need-returns
+unfolding sha256
+returns c = c .bytes-of .ensures ∙ ap stateBytes (c .before .node-of .ensures)
+
+pub node-spec : {M : Type 1} → statement M
+node-spec = tie.close (tie.spec (λ c. search needs) (λ c. search needs) returns)

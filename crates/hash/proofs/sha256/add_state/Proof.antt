@@ -1,0 +1,11 @@
+use borrow.Author.Needs.{needs}
+use Rattle.hash.specs.Sha256.{addState}
+use Rattle.hash.proofs.sha256.add_state.Statement.{statement}
+use Rattle.hash.proofs.sha256.add_state.Tie as tie
+
+returns : tie.Need-returns
+unfolding addState
+returns c = cc
+
+pub add-state-spec : {M : Type 1} → statement M
+add-state-spec = tie.close (tie.spec (λ c. search needs) (λ c. search needs) (λ c. search needs) (λ c. search needs) (λ c. search needs) (λ c. search needs) (λ c. search needs) (λ c. search needs) returns)

@@ -1,0 +1,23 @@
+use borrow.Author.Needs.{needs}
+use denote.Ref.{now}
+use mathlib.Core.Path.{refl, _∙_}
+use Rattle.hash.specs.Words.{wordFrom}
+use Rattle.hash.specs.Sha256.{constants, compress}
+use Rattle.hash.proofs.Schedule.{whole}
+use Rattle.hash.proofs.sha256.compress.Statement.{statement}
+use Rattle.hash.proofs.sha256.compress.Tie as tie
+
+run-requires : tie.Need-run-requires
+unfolding constants
+run-requires c κs = (search needs, refl)
+
+returns : tie.Need-returns
+unfolding compress
+returns c =
+    let a = c .before .before .before .before .before .before .before .before .before .before .before .before .args in
+    let x = wordFrom (now (a .m)) (a .p) in
+    let ran = c .before .before .before .run .ensures x (c .before .before .before .before .before .before .before .before .load .ensures) in
+    (c .add-state .ensures ∙ rw (ran .0), whole _ x (search needs) (ran .1))
+
+pub compress-spec : {M : Type 1} → statement M
+compress-spec = tie.close (tie.spec (λ c. search needs) run-requires (λ c. search needs) (λ c. search needs) returns)

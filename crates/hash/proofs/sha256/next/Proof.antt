@@ -1,0 +1,9 @@
+use borrow.Author.Needs.{needs}
+use Rattle.hash.proofs.sha256.next.Statement.{statement}
+use Rattle.hash.proofs.sha256.next.Tie as tie
+
+returns : tie.Need-returns
+returns c = cc
+
+pub next-spec : {M : Type 1} → statement M
+next-spec = tie.close (tie.spec (λ c. search needs) (λ c. search needs) (λ c. search needs) (λ c. search needs) (λ c. search needs) returns)

@@ -1,0 +1,11 @@
+use borrow.Author.Needs.{needs}
+use Rattle.hash.specs.Sha256.{round}
+use Rattle.hash.proofs.sha256.round.Statement.{statement}
+use Rattle.hash.proofs.sha256.round.Tie as tie
+
+returns : tie.Need-returns
+unfolding round
+returns c = cc
+
+pub round-spec : {M : Type 1} → statement M
+round-spec = tie.close (tie.spec (λ c. search needs) (λ c. search needs) (λ c. search needs) (λ c. search needs) returns)

@@ -1,0 +1,135 @@
+// SHA-256 (FIPS 180-4), and the hashes of a leaf and of a node (RFC 9162, section 2.1.1). The lowest layer: those above see its contracts, and that
+// a digest has 32 bytes.
+mod message;
+pub mod sha256;
+
+ghost use mathlib.Core.Path.{_≡_};
+ghost use mathlib.Core.List.{[]};
+ghost use Rattle.hash.specs.Digest.{sha256, leafHash, nodeHash};
+ghost use Rattle.hash.specs.Answers.{mostInput, mostItem, valueNumber, valueBytes, intoNumber, intoBytes};
+use message::bytes_of;
+use message::hash_of;
+use message::node_of;
+use message::put_state;
+
+// The longest item, and the longest input of a digest: an item with one byte before it.
+const MOST_ITEM: usize = 33_554_432;
+
+const MOST_INPUT: usize = 33_554_433;
+
+// A hash value: eight words.
+pub struct State {
+    pub a: u32,
+    pub b: u32,
+    pub c: u32,
+    pub d: u32,
+    pub e: u32,
+    pub f: u32,
+    pub g: u32,
+    pub h: u32,
+}
+
+// A hash value as bytes.
+pub struct Digest {
+    pub bytes: [u8; 32],
+}
+
+// A digest with the number 0, or a refusal's number with 32 zero bytes.
+pub struct Hashed {
+    pub number: u32,
+    pub digest: Digest,
+}
+
+// What the block step answers.
+pub enum Stepped {
+    Done(State),
+    Refused(u32),
+}
+
+// The digest of the input. 1: the input is too long.
+pub fn digest_of(input: &[u8]) -> Hashed
+    ensures { λ r. ⌜ r .number ≡ valueNumber mostInput (now (input .entry)) ⌝ }
+    ensures { λ r. ⌜ r .digest .bytes ≡ valueBytes mostInput (now (input .entry)) (sha256 (now (input .entry))) ⌝ }
+{
+    if MOST_INPUT < input.len() {
+        return Hashed {
+            number: 1,
+            digest: Digest { bytes: [0; 32] },
+        };
+    }
+    Hashed {
+        number: 0,
+        digest: Digest {
+            bytes: bytes_of(hash_of(b"", input)),
+        },
+    }
+}
+
+// The leaf hash of an item. 1: the item is too long.
+pub fn leaf(item: &[u8]) -> Hashed
+    ensures { λ r. ⌜ r .number ≡ valueNumber mostItem (now (item .entry)) ⌝ }
+    ensures { λ r. ⌜ r .digest .bytes ≡ valueBytes mostItem (now (item .entry)) (leafHash (now (item .entry))) ⌝ }
+{
+    if MOST_ITEM < item.len() {
+        return Hashed {
+            number: 1,
+            digest: Digest { bytes: [0; 32] },
+        };
+    }
+    Hashed {
+        number: 0,
+        digest: Digest {
+            bytes: bytes_of(hash_of(b"\x00", item)),
+        },
+    }
+}
+
+// The hash of a node over its two parts.
+pub fn node(left: Digest, right: Digest) -> Digest
+    ensures { λ r. ⌜ r .bytes ≡ nodeHash (left .bytes) (right .bytes) ⌝ }
+{
+    let l = left.bytes;
+    let r = right.bytes;
+    Digest {
+        bytes: bytes_of(node_of(&l, &r)),
+    }
+}
+
+// The digest of the empty string: the root of a tree with no leaves.
+pub fn empty() -> Digest
+    ensures { λ r. ⌜ r .bytes ≡ sha256 [] ⌝ }
+{
+    Digest {
+        bytes: bytes_of(hash_of(b"", b"")),
+    }
+}
+
+// The digest of the input into the first 32 bytes of out; 0, or why not. 1: the input is too long. 9: out is too short.
+pub fn digest_into(input: &[u8], out: &mut [u8]) -> u32
+    ensures { λ r. ⌜ r ≡ intoNumber mostInput (now (input .entry)) (now (out .entry)) ⌝ }
+    ensures { λ _. ⌜ now (out .exit) ≡ intoBytes mostInput (now (input .entry)) (sha256 (now (input .entry))) (now (out .entry)) ⌝ }
+{
+    if MOST_INPUT < input.len() {
+        return 1;
+    }
+    if out.len() < 32 {
+        return 9;
+    }
+    put_state(out, hash_of(b"", input));
+    0
+}
+
+// The leaf hash of an item into the first 32 bytes of out; 0, or why not. 1: the item is too long. 9: out is too short.
+pub fn leaf_into(item: &[u8], out: &mut [u8]) -> u32
+    ensures { λ r. ⌜ r ≡ intoNumber mostItem (now (item .entry)) (now (out .entry)) ⌝ }
+    ensures { λ _. ⌜ now (out .exit) ≡ intoBytes mostItem (now (item .entry)) (leafHash (now (item .entry))) (now (out .entry)) ⌝ }
+{
+    if MOST_ITEM < item.len() {
+        return 1;
+    }
+    if out.len() < 32 {
+        return 9;
+    }
+    put_state(out, hash_of(b"\x00", item));
+    0
+}

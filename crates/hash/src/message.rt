@@ -1,0 +1,175 @@
+// A message, padded and taken in block by block (FIPS 180-4, sections 5.1.1 and 6.2). Whole blocks are read where they lie; what is left at the end
+// goes with the padding into one array of two blocks.
+ghost use mathlib.Core.Path.{_≡_};
+ghost use mathlib.Core.List.{_++_, _∷_};
+ghost use Prim.Native.Nat.{_+_, _-_, _*_, _/_, _%_, _^_, _<_, _≤_};
+ghost use lib.ListN.{length, take, drop, replicate};
+ghost use lib.Seq.{paste};
+ghost use Rattle.hash.specs.Words.{lengthBytes};
+ghost use Rattle.hash.specs.Sha256.{compress as compressOf, initial as initialOf};
+ghost use Rattle.hash.specs.Message.{ending, absorbed, hashValue, stateBytes};
+ghost use Rattle.hash.specs.Inner.{putWord};
+use crate::State;
+use crate::sha256::compress;
+
+// The initial hash value (5.3.3).
+fn initial() -> State
+    ensures { λ r. ⌜ r ≡ initialOf ⌝ }
+{
+    State {
+        a: 0x6a09_e667,
+        b: 0xbb67_ae85,
+        c: 0x3c6e_f372,
+        d: 0xa54f_f53a,
+        e: 0x510e_527f,
+        f: 0x9b05_688c,
+        g: 0x1f83_d9ab,
+        h: 0x5be0_cd19,
+    }
+}
+
+// Copies s into d from `at` on.
+fn put(s: &[u8], d: &mut [u8], at: usize)
+    requires { ⌜ at + length (now s) ≤ length (now d) ⌝ }
+    ensures { λ _. ⌜ now (d .exit) ≡ paste (now (d .entry)) at (now (s .entry)) (length (now (s .entry))) ⌝ }
+{
+    let mut j = 0;
+    while j < s.len() {
+        d[at + j] = s[j];
+        j += 1;
+    }
+}
+
+fn length_bytes(x: u64) -> [u8; 8]
+    ensures { λ r. ⌜ r ≡ lengthBytes x ⌝ }
+{
+    [
+        ((x >> 56) % 256) as u8,
+        ((x >> 48) % 256) as u8,
+        ((x >> 40) % 256) as u8,
+        ((x >> 32) % 256) as u8,
+        ((x >> 24) % 256) as u8,
+        ((x >> 16) % 256) as u8,
+        ((x >> 8) % 256) as u8,
+        (x % 256) as u8,
+    ]
+}
+
+// Head and then rest, at the start of an array of zeros.
+fn join(head: &[u8], rest: &[u8], a: &mut [u8])
+    requires { ⌜ (length (now head) + length (now rest) ≤ length (now a)) × (now a ≡ replicate (length (now a)) 0) ⌝ }
+    ensures { λ _. ⌜ now (a .exit) ≡ (now (head .entry) ++ now (rest .entry)) ++ replicate (length (now (a .entry)) - (length (now (head .entry)) + length (now (rest .entry)))) 0 ⌝ }
+{
+    let k = head.len();
+    put(head, a, 0);
+    put(rest, a, k);
+}
+
+// The last bytes of a message of n bytes, head and then rest, and what follows a message, up to byte `end` of two blocks of zeros.
+fn pack(head: &[u8], rest: &[u8], n: u64, end: usize, a: &mut [u8])
+    requires { ⌜ (length (now head) + length (now rest) < 120) × (n < 2 ^ 60) × (n % 64 ≡ (length (now head) + length (now rest)) % 64) ⌝ }
+    requires { ⌜ (end ≡ 64 * ((length (now head) + length (now rest) + 72) / 64)) × (now a ≡ replicate (length (now a)) 0) × (length (now a) ≡ 128) ⌝ }
+    ensures { λ _. ⌜ take end (now (a .exit)) ≡ (now (head .entry) ++ now (rest .entry)) ++ ending n ⌝ }
+{
+    let len = head.len() + rest.len();
+    let b = length_bytes(8 * n);
+    join(head, rest, a);
+    a[len] = 0x80;
+    put(&b, a, end - 8);
+}
+
+// The hash value after the last bytes of a message of n bytes, head and then rest, and what follows a message.
+fn finish(s: State, head: &[u8], rest: &[u8], n: u64, w: &mut [u32]) -> State
+    requires { ⌜ (length (now head) + length (now rest) < 120) × (n < 2 ^ 60) × (n % 64 ≡ (length (now head) + length (now rest)) % 64) × (length (now w) ≡ 64) ⌝ }
+    ensures { λ r. ⌜ r ≡ absorbed compressOf s ((now (head .entry) ++ now (rest .entry)) ++ ending n) ((length (now (head .entry)) + length (now (rest .entry)) + 72) / 64) ⌝ }
+{
+    let end = (head.len() + rest.len() + 72) / 64 * 64;
+    let mut a = [0u8; 128];
+    pack(head, rest, n, end, &mut a);
+    let t = compress(s, &a, 0, w);
+    if end <= 64 {
+        return t;
+    }
+    compress(t, &a, 64, w)
+}
+
+// The hash value after a first block: head, and the first p bytes of m.
+fn first(head: &[u8], m: &[u8], p: usize, w: &mut [u32]) -> State
+    requires { ⌜ (length (now head) + p ≡ 64) × (p ≤ length (now m)) × (length (now w) ≡ 64) ⌝ }
+    ensures { λ r. ⌜ r ≡ absorbed compressOf initialOf (now (head .entry) ++ now (m .entry)) 1 ⌝ }
+{
+    let mut a = [0u8; 64];
+    join(head, &m[..p], &mut a);
+    compress(initial(), &a, 0, w)
+}
+
+// The hash value after a message of more than one block, head and then m.
+fn long(head: &[u8], m: &[u8], w: &mut [u32]) -> State
+    requires { ⌜ (length (now head) < 64) × (64 ≤ length (now head) + length (now m)) × (length (now head) + length (now m) < 2 ^ 60) × (length (now w) ≡ 64) ⌝ }
+    ensures { λ r. ⌜ r ≡ hashValue compressOf initialOf (now (head .entry) ++ now (m .entry)) ⌝ }
+{
+    let n = head.len() + m.len();
+    let mut p = 64 - head.len();
+    let mut v = first(head, m, p, w);
+    while 64 <= m.len() - p {
+        v = compress(v, m, p, w);
+        p += 64;
+    }
+    finish(v, b"", &m[p..], n as u64, w)
+}
+
+// The hash value after a message, head and then m.
+pub(crate) fn hash_of(head: &[u8], m: &[u8]) -> State
+    requires { ⌜ (length (now head) < 64) × (length (now head) + length (now m) < 2 ^ 60) ⌝ }
+    ensures { λ r. ⌜ r ≡ hashValue compressOf initialOf (now (head .entry) ++ now (m .entry)) ⌝ }
+{
+    let mut w = [0u32; 64];
+    let n = head.len() + m.len();
+    if n < 120 {
+        return finish(initial(), head, m, n as u64, &mut w);
+    }
+    long(head, m, &mut w)
+}
+
+// The hash value after 0x01, left and right (RFC 9162, section 2.1.1).
+pub(crate) fn node_of(left: &[u8; 32], right: &[u8; 32]) -> State
+    ensures { λ r. ⌜ r ≡ hashValue compressOf initialOf (1 ∷ (now (left .entry) ++ now (right .entry))) ⌝ }
+{
+    let mut w = [0u32; 64];
+    let mut h = [1u8; 33];
+    put(left, &mut h, 1);
+    finish(initial(), &h, right, 65, &mut w)
+}
+
+fn put_word(out: &mut [u8], at: usize, x: u32)
+    requires { ⌜ at + 3 < length (now out) ⌝ }
+    ensures { λ _. ⌜ now (out .exit) ≡ putWord (now (out .entry)) at x ⌝ }
+{
+    out[at] = ((x >> 24) % 256) as u8;
+    out[at + 1] = ((x >> 16) % 256) as u8;
+    out[at + 2] = ((x >> 8) % 256) as u8;
+    out[at + 3] = (x % 256) as u8;
+}
+
+// A hash value's bytes into the first 32 bytes of out.
+pub(crate) fn put_state(out: &mut [u8], s: State)
+    requires { ⌜ 32 ≤ length (now out) ⌝ }
+    ensures { λ _. ⌜ now (out .exit) ≡ stateBytes s ++ drop 32 (now (out .entry)) ⌝ }
+{
+    put_word(out, 0, s.a);
+    put_word(out, 4, s.b);
+    put_word(out, 8, s.c);
+    put_word(out, 12, s.d);
+    put_word(out, 16, s.e);
+    put_word(out, 20, s.f);
+    put_word(out, 24, s.g);
+    put_word(out, 28, s.h);
+}
+
+pub(crate) fn bytes_of(s: State) -> [u8; 32]
+    ensures { λ r. ⌜ r ≡ stateBytes s ⌝ }
+{
+    let mut d = [0u8; 32];
+    put_state(&mut d, s);
+    d
+}
