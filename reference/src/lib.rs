@@ -4,11 +4,16 @@
 pub mod random;
 pub mod requests;
 pub mod sha256;
+pub mod tree;
 pub mod vectors;
+pub mod verdict;
+pub mod verify;
 pub mod words;
+pub mod yields;
 
 pub mod layers {
     //! One module a layer: its requests, their answers, its cases and its
     //! random requests.
     pub mod hash;
+    pub mod tree;
 }
