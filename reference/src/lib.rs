@@ -1,6 +1,7 @@
 //! The independent second program, written from FIPS 180-4, RFC 9162 and the
 //! scope paper alone. It shares no code with the program that it tests.
 
+pub mod item;
 pub mod random;
 pub mod requests;
 pub mod sha256;
@@ -15,5 +16,6 @@ pub mod layers {
     //! One module a layer: its requests, their answers, its cases and its
     //! random requests.
     pub mod hash;
+    pub mod item;
     pub mod tree;
 }
