@@ -1,6 +1,7 @@
 //! The independent second program, written from FIPS 180-4, RFC 9162 and the
 //! scope paper alone. It shares no code with the program that it tests.
 
+pub mod auditor;
 pub mod carry;
 pub mod item;
 pub mod random;
