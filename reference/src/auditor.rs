@@ -169,7 +169,7 @@ pub fn dispute_of(h: HashFunction, calls: &[Call], accepted: &[bool], first: usi
             _ => None,
         })
     };
-    let held = heads(0, first).last().expect("an accepted page has a head");
+    let held = heads(0, first).next_back().expect("an accepted page has a head");
     let steps: Vec<Step> = heads(first, second).map(|head| (head.size, &head.root[..], &head.path[..])).collect();
     dispute(h, one, held.size, &held.root, &steps, two)
 }

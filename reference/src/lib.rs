@@ -4,6 +4,7 @@
 pub mod auditor;
 pub mod carry;
 pub mod item;
+pub mod proofs;
 pub mod random;
 pub mod requests;
 pub mod sha256;

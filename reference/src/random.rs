@@ -7,7 +7,7 @@ impl Random {
         Random(seed)
     }
 
-    pub fn next(&mut self) -> u64 {
+    pub fn draw(&mut self) -> u64 {
         self.0 = self.0.wrapping_add(0x9e37_79b9_7f4a_7c15);
         let mut z = self.0;
         z = (z ^ (z >> 30)).wrapping_mul(0xbf58_476d_1ce4_e5b9);
@@ -17,7 +17,7 @@ impl Random {
 
     /// A number below `bound`, which is above 0.
     pub fn below(&mut self, bound: u64) -> u64 {
-        self.next() % bound
+        self.draw() % bound
     }
 
     /// A number from `low` to `high`, both included.
@@ -31,7 +31,7 @@ impl Random {
     }
 
     pub fn byte(&mut self) -> u8 {
-        self.next() as u8
+        self.draw() as u8
     }
 
     pub fn bytes(&mut self, count: usize) -> Vec<u8> {
@@ -57,8 +57,8 @@ mod tests {
     fn known_start() {
         // The first values of splitmix64 with seed 1234567.
         let mut random = Random::new(1234567);
-        assert_eq!(random.next(), 6457827717110365317);
-        assert_eq!(random.next(), 3203168211198807973);
-        assert_eq!(random.next(), 9817491932198370423);
+        assert_eq!(random.draw(), 6457827717110365317);
+        assert_eq!(random.draw(), 3203168211198807973);
+        assert_eq!(random.draw(), 9817491932198370423);
     }
 }

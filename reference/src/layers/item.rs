@@ -174,7 +174,7 @@ fn random_fields(random: &mut Random) -> Fields {
     }
     fn value(random: &mut Random) -> u64 {
         let bits = random.below(65);
-        random.next().checked_shr(bits as u32).unwrap_or(0)
+        random.draw().checked_shr(bits as u32).unwrap_or(0)
     }
     let extensions = random.below(4);
     let nodes = random.below(5);
@@ -453,7 +453,7 @@ fn papers_cases(requests: &mut Requests) {
 }
 
 fn cases(requests: &mut Requests) {
-    let random = &mut Random::new(4_12);
+    let random = &mut Random::new(412);
     papers_cases(requests);
     for kind in KINDS {
         whole_and_damaged(requests, &encode(kind, &smallest(kind as u8)).unwrap(), random);
@@ -505,7 +505,7 @@ fn cases(requests: &mut Requests) {
 
 /// Longest fields, every byte of many items changed, every beginning of more.
 fn full(requests: &mut Requests) {
-    let random = &mut Random::new(4_13);
+    let random = &mut Random::new(413);
     for kind in KINDS {
         for _ in 0..4 {
             whole_and_damaged(requests, &encode(kind, &random_fields(random)).unwrap(), random);
@@ -612,7 +612,7 @@ fn random_read(random: &mut Random) -> Vec<Word> {
 }
 
 fn random_write(random: &mut Random) -> Vec<Word> {
-    let kind = if random.one_in(20) { random.next() as u16 } else { *random.pick(&KINDS) };
+    let kind = if random.one_in(20) { random.draw() as u16 } else { *random.pick(&KINDS) };
     let mut fields = random_fields(random);
     for _ in 0..*random.pick(&[0, 0, 1, 1, 3]) {
         let (change, _) = random.pick(&BAD_FIELDS);
