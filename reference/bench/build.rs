@@ -1,0 +1,31 @@
+//! Builds plain.c with gcc -O3 and links it beside the proved library.
+//! MTA_LIB names the folder of libmta.a; it is target/staticlib of the
+//! repository where it is not set.
+
+use std::path::PathBuf;
+use std::process::Command;
+
+fn main() {
+    let here = PathBuf::from(std::env::var("CARGO_MANIFEST_DIR").unwrap());
+    let out = PathBuf::from(std::env::var("OUT_DIR").unwrap());
+    let object = out.join("plain.o");
+    let library = out.join("libplain.a");
+
+    run(Command::new("gcc").args(["-std=c11", "-Wall", "-Wextra", "-O3", "-fPIC", "-c", "-o"]).arg(&object).arg(here.join("plain.c")));
+    let _ = std::fs::remove_file(&library);
+    run(Command::new("ar").arg("rcs").arg(&library).arg(&object));
+
+    let proved = std::env::var_os("MTA_LIB").map_or(here.join("../../target/staticlib"), PathBuf::from);
+    println!("cargo:rustc-link-search=native={}", out.display());
+    println!("cargo:rustc-link-search=native={}", proved.display());
+    println!("cargo:rustc-link-lib=static=plain");
+    println!("cargo:rustc-link-lib=static=mta");
+    println!("cargo:rerun-if-changed=plain.c");
+    println!("cargo:rerun-if-changed={}", proved.join("libmta.a").display());
+    println!("cargo:rerun-if-env-changed=MTA_LIB");
+}
+
+fn run(command: &mut Command) {
+    let status = command.status().unwrap_or_else(|error| panic!("{command:?}: {error}"));
+    assert!(status.success(), "{command:?} failed");
+}

@@ -1,0 +1,213 @@
+//! Times the proved hash beside the plain algorithm in C (gcc -O3) and Rust
+//! (release), and OpenSSL: one machine, one run, the contestants in turn.
+//! A ratio is the plain time divided by ours: above 1, ours is faster.
+
+mod contestants;
+mod openssl;
+
+use contestants::{Contestant, OURS, PLAIN_C, PLAIN_RUST};
+use std::hint::black_box;
+use std::io::{BufRead, BufReader, Write};
+use std::process::{Child, ChildStdin, ChildStdout, Command, Stdio};
+use std::time::Instant;
+
+/// Turns of each contestant, and the time one turn should take.
+const TURNS: usize = 101;
+const TURN_NANOSECONDS: f64 = 400_000.0;
+
+#[derive(Clone, Copy)]
+enum Job {
+    Step,
+    Digest(usize),
+    Leaf(usize),
+    Node,
+}
+
+const SHORT: [usize; 8] = [0, 1, 32, 55, 56, 64, 100, 118];
+
+fn jobs() -> Vec<(String, Job)> {
+    let mut jobs = vec![
+        ("block step".to_string(), Job::Step),
+        ("digest 1 MiB".to_string(), Job::Digest(1 << 20)),
+        ("node hash".to_string(), Job::Node),
+    ];
+    jobs.extend(SHORT.map(|count| (format!("digest {count}"), Job::Digest(count))));
+    jobs.extend(SHORT.map(|count| (format!("leaf {count}"), Job::Leaf(count))));
+    jobs
+}
+
+fn input(count: usize) -> Vec<u8> {
+    (0..count).map(|i| (i * 31 + i / 251) as u8).collect()
+}
+
+/// Does a job so many times; nanoseconds of all of them.
+fn time(contestant: &Contestant, job: Job, times: usize) -> f64 {
+    let mut out = [0; 32];
+    match job {
+        Job::Step => {
+            let mut state = [1; 8];
+            let block: [u8; 64] = input(64).try_into().unwrap();
+            let mut schedule = [0; 64];
+            let start = Instant::now();
+            for _ in 0..times {
+                (contestant.step)(black_box(&mut state), black_box(&block), black_box(&mut schedule));
+            }
+            start.elapsed().as_nanos() as f64
+        }
+        Job::Digest(count) => {
+            let input = input(count);
+            let start = Instant::now();
+            for _ in 0..times {
+                (contestant.digest)(black_box(&input), black_box(&mut out));
+            }
+            start.elapsed().as_nanos() as f64
+        }
+        Job::Leaf(count) => {
+            let item = input(count);
+            let start = Instant::now();
+            for _ in 0..times {
+                (contestant.leaf)(black_box(&item), black_box(&mut out));
+            }
+            start.elapsed().as_nanos() as f64
+        }
+        Job::Node => {
+            let (left, right) = ([7; 32], [8; 32]);
+            let start = Instant::now();
+            for _ in 0..times {
+                (contestant.node)(black_box(&left), black_box(&right), black_box(&mut out));
+            }
+            start.elapsed().as_nanos() as f64
+        }
+    }
+}
+
+/// All contestants give the same answers, or nothing is timed.
+fn check(contestant: &Contestant) {
+    let (mut out, mut expected) = ([0; 32], [0; 32]);
+    for count in (0..300).chain([1 << 20]) {
+        let input = input(count);
+        (contestant.digest)(&input, &mut out);
+        (PLAIN_RUST.digest)(&input, &mut expected);
+        assert_eq!(out, expected, "{}: digest of {count} bytes", contestant.name);
+        (contestant.leaf)(&input, &mut out);
+        (PLAIN_RUST.leaf)(&input, &mut expected);
+        assert_eq!(out, expected, "{}: leaf of {count} bytes", contestant.name);
+    }
+    (contestant.node)(&[7; 32], &[8; 32], &mut out);
+    (PLAIN_RUST.node)(&[7; 32], &[8; 32], &mut expected);
+    assert_eq!(out, expected, "{}: node", contestant.name);
+    let block: [u8; 64] = input(64).try_into().unwrap();
+    let (mut state, mut expected) = ([5; 8], [5; 8]);
+    (contestant.step)(&mut state, &block, &mut [0; 64]);
+    (PLAIN_RUST.step)(&mut expected, &block, &mut [0; 64]);
+    assert_eq!(state, expected, "{}: block step", contestant.name);
+}
+
+/// OpenSSL in a process of its own, asked for one turn at a time.
+struct OtherProcess {
+    child: Child,
+    ask: ChildStdin,
+    answer: BufReader<ChildStdout>,
+}
+
+impl OtherProcess {
+    fn start(without_hardware: bool) -> OtherProcess {
+        let mut command = Command::new(std::env::current_exe().unwrap());
+        command.arg("openssl").stdin(Stdio::piped()).stdout(Stdio::piped());
+        if without_hardware {
+            // CPUID 7, EBX, bit 29: the SHA instructions.
+            command.env("OPENSSL_ia32cap", ":~0x20000000");
+        }
+        let mut child = command.spawn().expect("cannot start");
+        let ask = child.stdin.take().unwrap();
+        let answer = BufReader::new(child.stdout.take().unwrap());
+        OtherProcess { child, ask, answer }
+    }
+
+    fn time(&mut self, job: usize, times: usize) -> f64 {
+        writeln!(self.ask, "{job} {times}").expect("other process");
+        let mut line = String::new();
+        self.answer.read_line(&mut line).expect("other process");
+        line.trim().parse().expect("other process")
+    }
+
+    fn end(mut self) {
+        drop(self.ask);
+        let _ = self.child.wait();
+    }
+}
+
+fn serve_openssl() {
+    check(&openssl::OPENSSL);
+    let jobs = jobs();
+    for line in std::io::stdin().lines() {
+        let line = line.unwrap();
+        let (job, times) = line.split_once(' ').unwrap();
+        let (_, job) = jobs[job.parse::<usize>().unwrap()];
+        println!("{}", time(&openssl::OPENSSL, job, times.parse().unwrap()));
+    }
+}
+
+fn best(times: &[f64]) -> f64 {
+    times.iter().copied().fold(f64::INFINITY, f64::min)
+}
+
+fn median(times: &[f64]) -> f64 {
+    let mut sorted = times.to_vec();
+    sorted.sort_by(f64::total_cmp);
+    sorted[sorted.len() / 2]
+}
+
+fn machine() -> String {
+    let info = std::fs::read_to_string("/proc/cpuinfo").unwrap_or_default();
+    let model = info.lines().find_map(|line| line.strip_prefix("model name")?.split_once(':').map(|(_, name)| name.trim()));
+    model.unwrap_or("unknown machine").to_string()
+}
+
+fn main() {
+    if std::env::args().nth(1).as_deref() == Some("openssl") {
+        return serve_openssl();
+    }
+    let here = [OURS, PLAIN_C, PLAIN_RUST];
+    here.iter().for_each(check);
+    let mut others = Vec::new();
+    if openssl::is_here() {
+        others.push(OtherProcess::start(false));
+        others.push(OtherProcess::start(true));
+    }
+
+    println!("machine: {}", machine());
+    println!("{TURNS} turns of each contestant, one after the other; nanoseconds of the best turn");
+    println!("ratio: plain time / ours, of the best turns (and the median of each turn's); above 1, ours is faster");
+    println!();
+    let heads = ["ours", "plain C", "plain Rust", "OpenSSL", "no SHA-NI"];
+    print!("{:<14}", "");
+    for head in &heads[..here.len() + others.len()] {
+        print!("{head:>12}");
+    }
+    println!("{:>16}{:>16}", "C / ours", "Rust / ours");
+
+    for (index, (name, job)) in jobs().into_iter().enumerate() {
+        let one = best(&[0; 5].map(|_| time(&PLAIN_C, job, 3) / 3.0));
+        let times = ((TURN_NANOSECONDS / one) as usize).max(1);
+        let mut all = vec![Vec::new(); here.len() + others.len()];
+        for _ in 0..TURNS {
+            for (place, contestant) in here.iter().enumerate() {
+                all[place].push(time(contestant, job, times) / times as f64);
+            }
+            for (place, other) in others.iter_mut().enumerate() {
+                all[here.len() + place].push(other.time(index, times) / times as f64);
+            }
+        }
+        print!("{name:<14}");
+        for times in &all {
+            print!("{:>12.1}", best(times));
+        }
+        for plain in [1, 2] {
+            let turns: Vec<f64> = all[plain].iter().zip(&all[0]).map(|(plain, ours)| plain / ours).collect();
+            print!("{:>16}", format!("{:.3} ({:.3})", best(&all[plain]) / best(&all[0]), median(&turns)));
+        }
+        println!();
+    }
+    others.into_iter().for_each(OtherProcess::end);
+}

@@ -1,0 +1,688 @@
+//! Log items: read, written, and the newer of two heads.
+
+use crate::item::{self, encode, Fields, Item, Span};
+use crate::random::Random;
+use crate::requests::{lines_that_are_no_request, Entry, Layer, Requests};
+use crate::words::{bytes, number, read_hex, repeated, Word};
+
+pub const LAYER: Layer = Layer {
+    name: "item",
+    entries: &[
+        Entry { name: "read", answer: read, random: random_read },
+        Entry { name: "write", answer: write, random: random_write },
+        Entry { name: "newer", answer: newer, random: random_newer },
+    ],
+    cases,
+    full,
+};
+
+const KINDS: [u16; 8] = [0x0100, 0x0101, 0x0102, 0x0103, 0x0104, 0x0105, 0x0106, 0xf001];
+
+// Answers.
+
+/// The type, then a number for a number field and start and length for a vector.
+fn read(words: &[Word]) -> Option<Vec<Word>> {
+    let [input] = words else { return None };
+    let input = input.as_bytes()?;
+    let (kind, item) = match item::read(input) {
+        Ok(answer) => answer,
+        Err(refusal) => return Some(vec![number(refusal.number), number(refusal.place as u64)]),
+    };
+    // What is accepted is written again.
+    assert_eq!(encode(kind, &Fields::of(input, &item)).as_deref(), Ok(input), "written again");
+    let mut answer = vec![number(0), number(kind as u64)];
+    let mut part = |field: Part| match field {
+        Part::Number(value) => answer.push(number(value)),
+        Part::Vector(span) => answer.extend([number(span.start as u64), number(span.len() as u64)]),
+    };
+    parts(&item).into_iter().for_each(&mut part);
+    Some(answer)
+}
+
+enum Part {
+    Number(u64),
+    Vector(Span),
+}
+
+/// The fields in layout order.
+fn parts(item: &Item) -> Vec<Part> {
+    let n = |value: &u64| Part::Number(*value);
+    let v = |span: &Span| Part::Vector(span.clone());
+    match item {
+        Item::Entry { timestamp, key_hash, certificate, extensions } => vec![n(timestamp), v(key_hash), v(certificate), v(extensions)],
+        Item::Receipt { log_id, timestamp, extensions, signature } => vec![v(log_id), n(timestamp), v(extensions), v(signature)],
+        Item::Head { log_id, timestamp, size, root, extensions, signature } => {
+            vec![v(log_id), n(timestamp), n(size), v(root), v(extensions), v(signature)]
+        }
+        Item::Consistency { log_id, size_one, size_two, path } => vec![v(log_id), n(size_one), n(size_two), v(path)],
+        Item::Inclusion { log_id, size, place, path } => vec![v(log_id), n(size), n(place), v(path)],
+        Item::Page { timestamp, agreement, page, body } => vec![n(timestamp), n(agreement), n(page), v(body)],
+    }
+}
+
+/// The type and the page number are of 16 bits.
+fn write(words: &[Word]) -> Option<Vec<Word>> {
+    let [kind, timestamp, log_id, key_hash, certificate, extensions, signature, size, second, place, root, path, agreement, page, body, lent] =
+        words
+    else {
+        return None;
+    };
+    let kind = u16::try_from(kind.as_number()?).ok()?;
+    let fields = Fields {
+        timestamp: timestamp.as_number()?,
+        log_id: log_id.as_bytes()?.to_vec(),
+        key_hash: key_hash.as_bytes()?.to_vec(),
+        certificate: certificate.as_bytes()?.to_vec(),
+        extensions: extensions.as_bytes()?.to_vec(),
+        signature: signature.as_bytes()?.to_vec(),
+        size: size.as_number()?,
+        second: second.as_number()?,
+        place: place.as_number()?,
+        root: root.as_bytes()?.to_vec(),
+        path: path.as_bytes()?.to_vec(),
+        agreement: agreement.as_number()?,
+        page: u16::try_from(page.as_number()?).ok()?,
+        body: body.as_bytes()?.to_vec(),
+    };
+    let mut lent = lent.as_bytes()?.to_vec();
+    let (refusal, place, count) = match item::write(kind, &fields, &mut lent) {
+        Ok(count) => {
+            // What is written reads back as the same fields.
+            let (read_kind, item) = item::read(&lent[..count]).expect("readable");
+            assert_eq!(read_kind, kind);
+            assert_eq!(encode(kind, &Fields::of(&lent[..count], &item)).unwrap(), lent[..count]);
+            (0, 0, count)
+        }
+        Err(refusal) => (refusal.number, refusal.place, 0),
+    };
+    Some(vec![number(refusal), number(place as u64), number(count as u64), bytes(&lent)])
+}
+
+fn newer(words: &[Word]) -> Option<Vec<Word>> {
+    let [first, second] = words else { return None };
+    Some(vec![bytes(item::newer(first.as_bytes()?, second.as_bytes()?))])
+}
+
+// Requests.
+
+/// Bytes, in short where they repeat one byte.
+fn short(value: &[u8]) -> Word {
+    match value {
+        [first, rest @ ..] if rest.len() > 8 && rest.iter().all(|byte| byte == first) => repeated(value.len(), *first),
+        _ => bytes(value),
+    }
+}
+
+fn write_words(kind: u16, f: &Fields, lent: Word) -> Vec<Word> {
+    vec![
+        number(kind as u64),
+        number(f.timestamp),
+        short(&f.log_id),
+        short(&f.key_hash),
+        short(&f.certificate),
+        short(&f.extensions),
+        short(&f.signature),
+        number(f.size),
+        number(f.second),
+        number(f.place),
+        short(&f.root),
+        short(&f.path),
+        number(f.agreement),
+        number(f.page as u64),
+        short(&f.body),
+        lent,
+    ]
+}
+
+fn ask_read(requests: &mut Requests, input: &[u8]) {
+    requests.ask("read", &[short(input)]);
+}
+
+/// Every field as short as it may be.
+fn smallest(byte: u8) -> Fields {
+    Fields {
+        log_id: vec![byte; 2],
+        key_hash: vec![byte; 32],
+        certificate: vec![byte],
+        signature: vec![byte],
+        root: vec![byte; 32],
+        body: vec![byte],
+        ..Fields::default()
+    }
+}
+
+fn random_extensions(count: u64, longest: u64, random: &mut Random) -> Vec<u8> {
+    let mut all = Vec::new();
+    for _ in 0..count {
+        let length = random.below(longest + 1);
+        all.extend(random.bytes(2));
+        all.extend((length as u16).to_be_bytes());
+        all.extend(random.bytes(length as usize));
+    }
+    all
+}
+
+/// Fields of any sort, of a few dozen bytes; all in range.
+fn random_fields(random: &mut Random) -> Fields {
+    fn some(random: &mut Random, least: u64, usual: u64, most: u64) -> Vec<u8> {
+        let length = match random.below(12) {
+            0 => least,
+            1 => most,
+            _ => random.between(least, usual),
+        };
+        random.bytes(length as usize)
+    }
+    fn value(random: &mut Random) -> u64 {
+        let bits = random.below(65);
+        random.draw().checked_shr(bits as u32).unwrap_or(0)
+    }
+    let extensions = random.below(4);
+    let nodes = random.below(5);
+    Fields {
+        timestamp: value(random),
+        log_id: some(random, 2, 8, 127),
+        key_hash: random.bytes(32),
+        certificate: some(random, 1, 40, 300),
+        extensions: random_extensions(extensions, 9, random),
+        signature: some(random, 1, 40, 300),
+        size: value(random),
+        second: value(random),
+        place: value(random),
+        root: random.bytes(32),
+        path: random.bytes(32 * nodes as usize),
+        agreement: value(random),
+        page: value(random) as u16,
+        body: some(random, 1, 40, 300),
+    }
+}
+
+/// Every field in the middle, with two extensions and two nodes.
+fn middle(random: &mut Random) -> Fields {
+    let mut fields = random_fields(random);
+    fields.log_id = random.bytes(5);
+    fields.certificate = random.bytes(9);
+    fields.extensions = random_extensions(2, 5, random);
+    fields.signature = random.bytes(7);
+    fields.path = random.bytes(64);
+    fields.body = random.bytes(9);
+    fields
+}
+
+/// Where the bytes of all lengths stand, of vectors and of their elements.
+fn length_bytes(input: &[u8]) -> Vec<usize> {
+    let (_, item) = item::read(input).expect("a whole item");
+    let mut places = Vec::new();
+    let mut prefix = |span: &Span, width: usize| places.extend(span.start - width..span.start);
+    let (mut extended, mut path_of) = (None, None);
+    match &item {
+        Item::Entry { key_hash, certificate, extensions, .. } => {
+            prefix(key_hash, 1);
+            prefix(certificate, 3);
+            extended = Some(extensions.clone());
+        }
+        Item::Receipt { log_id, extensions, signature, .. } => {
+            prefix(log_id, 1);
+            prefix(signature, 2);
+            extended = Some(extensions.clone());
+        }
+        Item::Head { log_id, root, extensions, signature, .. } => {
+            prefix(log_id, 1);
+            prefix(root, 1);
+            prefix(signature, 2);
+            extended = Some(extensions.clone());
+        }
+        Item::Consistency { log_id, path, .. } | Item::Inclusion { log_id, path, .. } => {
+            prefix(log_id, 1);
+            path_of = Some(path.clone());
+        }
+        Item::Page { body, .. } => prefix(body, 3),
+    }
+    if let Some(span) = extended {
+        prefix(&span, 2);
+        let mut at = span.start;
+        while at < span.end {
+            prefix(&(at + 4..at + 4), 2);
+            at += 4 + u16::from_be_bytes([input[at + 2], input[at + 3]]) as usize;
+        }
+    }
+    if let Some(span) = path_of {
+        prefix(&span, 2);
+        span.step_by(33).for_each(|at| prefix(&(at + 1..at + 1), 1));
+    }
+    places
+}
+
+fn with_byte(input: &[u8], at: usize, byte: u8) -> Vec<u8> {
+    let mut changed = input.to_vec();
+    changed[at] = byte;
+    changed
+}
+
+/// An item, each of its beginnings, each length byte off by one and at its ends,
+/// and bytes after it.
+fn whole_and_damaged(requests: &mut Requests, input: &[u8], random: &mut Random) {
+    ask_read(requests, input);
+    for cut in 0..input.len() {
+        requests.ask("read", &[bytes(&input[..cut])]);
+    }
+    for at in length_bytes(input) {
+        for byte in [input[at].wrapping_add(1), input[at].wrapping_sub(1), 0, 255] {
+            requests.ask("read", &[bytes(&with_byte(input, at, byte))]);
+        }
+    }
+    for add in [1, 2, 33] {
+        requests.ask("read", &[bytes(&[input, &random.bytes(add)].concat())]);
+    }
+}
+
+/// A change of one field.
+type Change = (fn(&mut Fields, &mut Random), &'static str);
+
+/// Lengths next to and beyond the ends of each field's range.
+const BAD_FIELDS: [Change; 24] = [
+    (|f, _| f.log_id.clear(), "log_id"),
+    (|f, _| f.log_id.truncate(1), "log_id"),
+    (|f, _| f.log_id = vec![1; 128], "log_id"),
+    (|f, _| f.log_id = vec![1; 256], "log_id"),
+    (|f, _| f.key_hash.clear(), "key_hash"),
+    (|f, _| f.key_hash.truncate(31), "key_hash"),
+    (|f, _| f.key_hash.push(0), "key_hash"),
+    (|f, _| f.key_hash = vec![2; 288], "key_hash"),
+    (|f, _| f.certificate.clear(), "certificate"),
+    (|f, _| f.signature.clear(), "signature"),
+    (|f, _| f.signature = vec![3; 65_536], "signature"),
+    (|f, _| f.signature = vec![3; 65_537], "signature"),
+    (|f, _| f.extensions = vec![0; 65_536], "extensions"),
+    (|f, _| f.extensions = vec![0; 65_535], "extensions"),
+    (|f, r| f.extensions.extend(r.bytes(1)), "extensions"),
+    (|f, r| f.extensions.extend([r.byte(), 0, 0]), "extensions"),
+    (|f, r| f.extensions.extend([r.byte(), 0, 0, 2, 7]), "extensions"),
+    (|f, _| f.root.truncate(31), "root"),
+    (|f, _| f.root.push(0), "root"),
+    (|f, r| f.path.extend(r.bytes(1)), "path"),
+    (|f, r| f.path.extend(r.bytes(31)), "path"),
+    (|f, _| f.path = vec![4; 63_521], "path"),
+    (|f, _| f.path = vec![4; 63_552], "path"),
+    (|f, _| f.body.clear(), "body"),
+];
+
+/// The fields that a type has and that can be refused.
+fn vectors_of(kind: u16) -> &'static [&'static str] {
+    match kind {
+        0x0100 | 0x0101 => &["key_hash", "certificate", "extensions"],
+        0x0102 | 0x0103 => &["log_id", "extensions", "signature"],
+        0x0104 => &["log_id", "root", "extensions", "signature"],
+        0x0105 | 0x0106 => &["log_id", "path"],
+        _ => &["body"],
+    }
+}
+
+/// The fields that a type lacks, made bad: they aren't looked at.
+fn without_others(kind: u16, fields: &Fields) -> Fields {
+    let mut f = fields.clone();
+    let has = |name: &str| vectors_of(kind).contains(&name);
+    if !has("log_id") {
+        f.log_id = vec![9];
+    }
+    if !has("key_hash") {
+        f.key_hash = vec![];
+    }
+    if !has("certificate") {
+        f.certificate = vec![];
+    }
+    if !has("extensions") {
+        f.extensions = vec![1];
+    }
+    if !has("signature") {
+        f.signature = vec![];
+    }
+    if !has("root") {
+        f.root = vec![8; 3];
+    }
+    if !has("path") {
+        f.path = vec![5; 33];
+    }
+    if !has("body") {
+        f.body = vec![];
+    }
+    f
+}
+
+fn write_cases(requests: &mut Requests, random: &mut Random) {
+    for kind in KINDS {
+        for fields in [smallest(kind as u8), middle(random)] {
+            let fields = without_others(kind, &fields);
+            let length = encode(kind, &fields).unwrap().len();
+            for lent in [length, length + 5, length - 1, 0] {
+                requests.ask("write", &write_words(kind, &fields, repeated(lent, 0xee)));
+            }
+        }
+        let fields = middle(random);
+        for (change, _) in BAD_FIELDS {
+            let mut bad = fields.clone();
+            change(&mut bad, random);
+            let lent = if random.one_in(2) { 0 } else { 200 };
+            requests.ask("write", &write_words(kind, &bad, repeated(lent, 0xdd)));
+        }
+        // Two bad fields: the first of the layout is the one refused.
+        for _ in 0..6 {
+            let mut bad = fields.clone();
+            let mut names = vectors_of(kind).to_vec();
+            while names.len() > 2 {
+                names.remove(random.below(names.len() as u64) as usize);
+            }
+            for name in names {
+                let of_name: Vec<&Change> = BAD_FIELDS.iter().filter(|(_, n)| *n == name).collect();
+                (random.pick(&of_name).0)(&mut bad, random);
+            }
+            requests.ask("write", &write_words(kind, &bad, repeated(3, 0xcc)));
+        }
+    }
+    // Numbers at their ends.
+    for value in [0, 1, 255, 256, u32::MAX as u64, 1 << 32, 1 << 63, u64::MAX] {
+        for kind in KINDS {
+            let mut f = smallest(1);
+            f.timestamp = value;
+            f.size = value;
+            f.second = value ^ 3;
+            f.place = value ^ 5;
+            f.agreement = value ^ 7;
+            f.page = value as u16;
+            let length = encode(kind, &f).unwrap().len();
+            requests.ask("write", &write_words(kind, &without_others(kind, &f), repeated(length, 0)));
+        }
+    }
+    for kind in [0, 1, 2, 0x00ff, 0x0107, 0x0108, 0x0200, 0x0001, 0x0201, 0x0401, 0x0601, 0xf000, 0xf002, 0x01f0, 0xffff] {
+        requests.ask("write", &write_words(kind, &smallest(1), repeated(100, 0)));
+        requests.ask("write", &write_words(kind, &Fields::default(), bytes(&[])));
+    }
+    // The longest path and the longest certificate of a request, with no room for them.
+    let mut long = smallest(7);
+    long.path = vec![7; item::LONGEST_PATH];
+    for kind in [0x0105, 0x0106] {
+        requests.ask("write", &write_words(kind, &long, repeated(10, 1)));
+    }
+    long = smallest(7);
+    long.certificate = vec![7; 1_000_000];
+    requests.ask("write", &write_words(0x0100, &long, repeated(10, 1)));
+}
+
+fn newer_cases(requests: &mut Requests, random: &mut Random) {
+    let head = |size: u64, timestamp: u64, log_id: &[u8], random: &mut Random| {
+        let fields = Fields { size, timestamp, log_id: log_id.to_vec(), ..middle(random) };
+        encode(0x0104, &fields).unwrap()
+    };
+    let numbers = [0, 1, 2, 255, 256, 1 << 32, u64::MAX];
+    for size in numbers {
+        for timestamp in numbers {
+            let one = head(256, 255, b"id", random);
+            let two = head(size, timestamp, b"id", random);
+            requests.ask("newer", &[bytes(&one), bytes(&two)]);
+            requests.ask("newer", &[bytes(&two), bytes(&one)]);
+        }
+    }
+    let good = head(9, 9, b"abc", random);
+    for other_id in [&b"abd"[..], b"ab", b"abcd", b"bbc"] {
+        let other = head(10, 10, other_id, random);
+        requests.ask("newer", &[bytes(&good), bytes(&other)]);
+        requests.ask("newer", &[bytes(&other), bytes(&good)]);
+    }
+    let mut others: Vec<Vec<u8>> = KINDS.map(|kind| encode(kind, &Fields { log_id: b"abc".to_vec(), ..middle(random) }).unwrap()).to_vec();
+    others.push(vec![]);
+    others.push(good[..good.len() - 1].to_vec());
+    others.push([&good[..], &[0]].concat());
+    others.push(with_byte(&good, 23, 31));
+    for other in others {
+        requests.ask("newer", &[bytes(&good), bytes(&other)]);
+        requests.ask("newer", &[bytes(&other), bytes(&good)]);
+        requests.ask("newer", &[bytes(&other), bytes(&other)]);
+    }
+}
+
+/// The papers' item of 23 bytes, whole and spoilt.
+fn papers_cases(requests: &mut Requests) {
+    let whole = read_hex(b"0106022a030000000000000001000000000000000000").unwrap();
+    let whole = [&whole[..], &[0]].concat();
+    assert_eq!(whole.len(), 23);
+    ask_read(requests, &whole);
+    ask_read(requests, &whole[..22]);
+    ask_read(requests, &[&whole[..], &[0]].concat());
+    ask_read(requests, &with_byte(&whole, 2, 1));
+    ask_read(requests, &with_byte(&whole, 2, 128));
+    ask_read(requests, &[]);
+}
+
+fn cases(requests: &mut Requests) {
+    let random = &mut Random::new(412);
+    papers_cases(requests);
+    for kind in KINDS {
+        whole_and_damaged(requests, &encode(kind, &smallest(kind as u8)).unwrap(), random);
+        whole_and_damaged(requests, &encode(kind, &middle(random)).unwrap(), random);
+        // The type's two bytes, changed.
+        let input = encode(kind, &smallest(9)).unwrap();
+        for at in 0..2 {
+            for byte in [input[at].wrapping_add(1), input[at].wrapping_sub(1), 0, 255] {
+                ask_read(requests, &with_byte(&input, at, byte));
+            }
+        }
+    }
+    // Longest log id, and one more.
+    for kind in [0x0102, 0x0104, 0x0105, 0x0106] {
+        let input = encode(kind, &Fields { log_id: random.bytes(127), ..middle(random) }).unwrap();
+        ask_read(requests, &input);
+        ask_read(requests, &with_byte(&input, 2, 128));
+        ask_read(requests, &[&input[..2], &[128, 0], &input[3..]].concat());
+    }
+    for count in [1, 2, 3, 10, 100, 1_048_576] {
+        for byte in [0, 1, 255] {
+            ask_read(requests, &vec![byte; count]);
+        }
+    }
+    write_cases(requests, random);
+    newer_cases(requests, random);
+
+    lines_that_are_no_request(requests, "read");
+    for line in [
+        "read",
+        "read 1",
+        "read x x",
+        "newer x",
+        "newer x x x",
+        "newer 1 2",
+        "write",
+        "write 256",
+        "write 256 0 x x x x x 0 0 0 x x 0 0 x",
+        "write 256 0 x x x x x 0 0 0 x x 0 0 x x x",
+        "write x 0 x x x x x 0 0 0 x x 0 0 x x",
+        "write 256 x x x x x x 0 0 0 x x 0 0 x x",
+        "write 256 0 0 x x x x 0 0 0 x x 0 0 x x",
+        "write 256 0 x x x x x 0 0 0 x x 0 x x x",
+        "write 256 0 x x x x x 0 0 0 x x 0 0 x 0",
+    ] {
+        requests.line(line.as_bytes());
+    }
+}
+
+/// Longest fields, every byte of many items changed, every beginning of more.
+fn full(requests: &mut Requests) {
+    let random = &mut Random::new(413);
+    for kind in KINDS {
+        for _ in 0..4 {
+            whole_and_damaged(requests, &encode(kind, &random_fields(random)).unwrap(), random);
+        }
+        for _ in 0..3 {
+            let input = encode(kind, &random_fields(random)).unwrap();
+            for at in 0..input.len() {
+                let other = random.byte();
+                for byte in [input[at].wrapping_add(1), input[at].wrapping_sub(1), other] {
+                    requests.ask("read", &[bytes(&with_byte(&input, at, byte))]);
+                }
+            }
+        }
+    }
+
+    // The longest fields, as many as a line holds.
+    let mut long = middle(random);
+    long.log_id = random.bytes(127);
+    long.signature = random.bytes(65_535);
+    let long_signature = long.clone();
+    long.signature = random.bytes(1);
+    long.extensions = [&[0, 9, 0xff, 0xfb][..], &random.bytes(65_531)].concat();
+    let long_extension = long.clone();
+    long.extensions = vec![0; 65_532];
+    let many_extensions = long.clone();
+    long.extensions = vec![];
+    long.path = random.bytes(item::LONGEST_PATH);
+    let long_path = long.clone();
+    long.certificate = random.bytes(130_000);
+    long.body = random.bytes(130_000);
+    for kind in KINDS {
+        for fields in [&long_signature, &long_extension, &many_extensions, &long_path, &long] {
+            let input = encode(kind, fields).unwrap();
+            ask_read(requests, &input);
+            ask_read(requests, &input[..input.len() - 1]);
+            ask_read(requests, &[&input[..], &[0]].concat());
+            let places = length_bytes(&input);
+            for _ in 0..2 {
+                let at = *random.pick(&places);
+                let change = *random.pick(&[1, 255]);
+                ask_read(requests, &with_byte(&input, at, input[at].wrapping_add(change)));
+            }
+        }
+    }
+    // Written: longest fields of repeated bytes.
+    let mut long = smallest(6);
+    long.log_id = vec![1; 127];
+    long.extensions = vec![0; 65_532];
+    long.signature = vec![2; 65_535];
+    long.path = vec![3; item::LONGEST_PATH];
+    long.certificate = vec![4; 300_000];
+    long.body = vec![5; 300_000];
+    for kind in KINDS {
+        let length = encode(kind, &long).unwrap().len();
+        let wanted = without_others(kind, &long);
+        for lent in [length, length + 1, length - 1] {
+            requests.ask("write", &write_words(kind, &wanted, repeated(lent, 0xee)));
+        }
+    }
+}
+
+// Random requests.
+
+/// None to three small changes.
+fn damage(input: &mut Vec<u8>, random: &mut Random) {
+    let lengths = length_bytes(input);
+    for _ in 0..*random.pick(&[0, 1, 1, 2, 3]) {
+        if input.is_empty() {
+            return;
+        }
+        let at = random.below(input.len() as u64) as usize;
+        match random.below(10) {
+            0 => input.truncate(at),
+            1 => {
+                let count = random.between(1, 40) as usize;
+                input.extend(random.bytes(count));
+            }
+            2 => input[at] ^= 1 << random.below(8),
+            3 => input[at] = random.byte(),
+            4 => input.insert(at, random.byte()),
+            5 => {
+                input.remove(at);
+            }
+            6 => input[at.min(1)] ^= 1 << random.below(3),
+            _ => {
+                if let Some(byte) = input.get_mut(*random.pick(&lengths)) {
+                    let change = *random.pick(&[1, 255, 2, 254, 128]);
+                    *byte = byte.wrapping_add(change);
+                }
+            }
+        }
+    }
+}
+
+fn random_read(random: &mut Random) -> Vec<Word> {
+    if random.one_in(40) {
+        let count = random.below(60) as usize;
+        return vec![bytes(&random.bytes(count))];
+    }
+    let kind = *random.pick(&KINDS);
+    let mut input = encode(kind, &random_fields(random)).unwrap();
+    damage(&mut input, random);
+    vec![bytes(&input)]
+}
+
+fn random_write(random: &mut Random) -> Vec<Word> {
+    let kind = if random.one_in(20) { random.draw() as u16 } else { *random.pick(&KINDS) };
+    let mut fields = random_fields(random);
+    for _ in 0..*random.pick(&[0, 0, 1, 1, 3]) {
+        let (change, _) = random.pick(&BAD_FIELDS);
+        change(&mut fields, random);
+    }
+    let length = encode(kind, &fields).map_or(random.below(300) as usize, |all| all.len());
+    let lent = match random.below(6) {
+        0 => random.below(length as u64 + 1) as usize,
+        1 => length.saturating_sub(1),
+        2 => length + random.below(50) as usize,
+        _ => length,
+    };
+    let byte = random.byte();
+    write_words(kind, &fields, repeated(lent, byte))
+}
+
+fn random_newer(random: &mut Random) -> Vec<Word> {
+    let log_id = random.bytes(3);
+    let mut heads = Vec::new();
+    for _ in 0..2 {
+        let mut fields = random_fields(random);
+        fields.log_id = log_id.clone();
+        if random.one_in(10) {
+            fields.log_id[2] ^= 1;
+        }
+        fields.size = random.below(3) << (8 * random.below(2));
+        fields.timestamp = random.below(3) << (8 * random.below(2));
+        let kind = if random.one_in(20) { *random.pick(&KINDS) } else { 0x0104 };
+        let mut head = encode(kind, &fields).unwrap();
+        if random.one_in(6) {
+            damage(&mut head, random);
+        }
+        heads.push(bytes(&head));
+    }
+    heads
+}
+
+#[cfg(test)]
+mod tests {
+    use super::*;
+    use crate::requests::{answer, layer};
+
+    fn ask(line: &str) -> String {
+        String::from_utf8(answer(&[layer("item").unwrap()], line.as_bytes())).unwrap()
+    }
+
+    #[test]
+    fn answers() {
+        assert_eq!(ask("read x0106022a030000000000000001000000000000000000"), "2 21\n");
+        assert_eq!(ask("read x0106022a03000000000000000100000000000000000000"), "0 262 3 2 1 0 23 0\n");
+        assert_eq!(
+            ask("write 262 0 x2a03 x x x x 1 9 0 x x 0 0 x 24*07"),
+            format!("0 0 23 x0106022a03{}01{}07\n", "00".repeat(7), "00".repeat(10))
+        );
+        assert_eq!(ask("write 262 0 x2a x x x x 1 9 0 x x 0 0 x 1*07"), "5 2 0 x07\n");
+        assert_eq!(ask("write 263 0 x2a x x x x 1 9 0 x x 0 0 x 1*07"), "4 0 0 x07\n");
+        assert_eq!(ask("write 65536 0 x2a x x x x 1 9 0 x x 0 0 x 1*07"), "?\n");
+        assert_eq!(ask("newer x x"), "x\n");
+    }
+
+    #[test]
+    fn bad_fields_are_refused_by_the_types_that_have_them() {
+        let random = &mut Random::new(3);
+        for kind in KINDS {
+            for (change, name) in BAD_FIELDS {
+                let mut fields = middle(random);
+                change(&mut fields, random);
+                assert_eq!(encode(kind, &fields).is_err(), vectors_of(kind).contains(&name), "{kind:#x} {name}");
+            }
+            assert!(encode(kind, &without_others(kind, &middle(random))).is_ok());
+        }
+    }
+}

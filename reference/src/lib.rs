@@ -1,0 +1,24 @@
+//! The independent second program, written from FIPS 180-4, RFC 9162 and the
+//! scope paper alone. It shares no code with the program that it tests.
+
+pub mod auditor;
+pub mod carry;
+pub mod item;
+pub mod proofs;
+pub mod random;
+pub mod requests;
+pub mod sha256;
+pub mod tree;
+pub mod vectors;
+pub mod verdict;
+pub mod verify;
+pub mod words;
+pub mod yields;
+
+pub mod layers {
+    //! One module a layer: its requests, their answers, its cases and its
+    //! random requests.
+    pub mod hash;
+    pub mod item;
+    pub mod tree;
+}

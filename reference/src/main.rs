@@ -1,0 +1,70 @@
+//! Commands:
+//!   cases LAYER DIR        write DIR/stdin and DIR/stdout, the committed files
+//!   run LAYER SEED COUNT   write random requests to standard output
+//!   full LAYER             write the large run's requests to standard output
+//!   answer [LAYER]         read requests from standard input, write the answers
+
+use reference::requests::{self, Layer, Requests, LAYERS};
+use std::io::{self, BufRead, BufWriter, Write};
+use std::path::Path;
+use std::process::ExitCode;
+
+const USAGE: &str = "usage: reference cases LAYER DIR | run LAYER SEED COUNT | full LAYER | answer [LAYER]";
+
+fn main() -> ExitCode {
+    let arguments: Vec<String> = std::env::args().skip(1).collect();
+    let arguments: Vec<&str> = arguments.iter().map(String::as_str).collect();
+    match run(&arguments) {
+        Some(Ok(())) => ExitCode::SUCCESS,
+        Some(Err(error)) => {
+            eprintln!("reference: {error}");
+            ExitCode::FAILURE
+        }
+        None => {
+            eprintln!("{USAGE}");
+            let names: Vec<&str> = LAYERS.iter().map(|layer| layer.name).collect();
+            eprintln!("layers: {}", names.join(", "));
+            ExitCode::FAILURE
+        }
+    }
+}
+
+fn run(arguments: &[&str]) -> Option<io::Result<()>> {
+    let mut out = BufWriter::new(io::stdout().lock());
+    match arguments {
+        ["cases", layer, dir] => Some(write_cases(requests::layer(layer)?, Path::new(dir))),
+        ["run", layer, seed, count] => {
+            requests::random_run(requests::layer(layer)?, seed.parse().ok()?, count.parse().ok()?, &mut out);
+            Some(out.flush())
+        }
+        ["full", layer] => {
+            (requests::layer(layer)?.full)(&mut Requests::new(&mut out));
+            Some(out.flush())
+        }
+        ["answer"] => Some(write_answers(LAYERS, &mut io::stdin().lock(), &mut out)),
+        ["answer", layer] => Some(write_answers(&[requests::layer(layer)?], &mut io::stdin().lock(), &mut out)),
+        _ => None,
+    }
+}
+
+fn write_cases(layer: &Layer, dir: &Path) -> io::Result<()> {
+    let mut questions = Vec::new();
+    (layer.cases)(&mut Requests::new(&mut questions));
+    let mut answers = Vec::new();
+    write_answers(&[layer], &mut &questions[..], &mut answers)?;
+    std::fs::create_dir_all(dir)?;
+    std::fs::write(dir.join("stdin"), questions)?;
+    std::fs::write(dir.join("stdout"), answers)
+}
+
+fn write_answers(layers: &[&Layer], input: &mut dyn BufRead, out: &mut dyn Write) -> io::Result<()> {
+    let mut line = Vec::new();
+    while input.read_until(b'\n', &mut line)? > 0 {
+        if line.last() == Some(&b'\n') {
+            line.pop();
+        }
+        out.write_all(&requests::answer(layers, &line))?;
+        line.clear();
+    }
+    out.flush()
+}

@@ -1,0 +1,199 @@
+//! Layers and their entries: who answers which request.
+
+use crate::layers;
+use crate::random::Random;
+use crate::words::{read_line, write_line, Word};
+use std::io::Write;
+
+pub struct Entry {
+    pub name: &'static str,
+    /// The answer; `None` where these aren't the entry's arguments.
+    pub answer: fn(&[Word]) -> Option<Vec<Word>>,
+    /// The arguments of a random request.
+    pub random: fn(&mut Random) -> Vec<Word>,
+}
+
+pub struct Layer {
+    pub name: &'static str,
+    pub entries: &'static [Entry],
+    /// The committed requests.
+    pub cases: fn(&mut Requests),
+    /// A large run without chance.
+    pub full: fn(&mut Requests),
+}
+
+/// Every layer. A new one adds its module and its line here.
+pub static LAYERS: &[&Layer] = &[&layers::hash::LAYER, &layers::tree::LAYER, &layers::item::LAYER];
+
+pub fn layer(name: &str) -> Option<&'static Layer> {
+    LAYERS.iter().copied().find(|layer| layer.name == name)
+}
+
+/// Where requests are written.
+pub struct Requests<'a> {
+    out: &'a mut dyn Write,
+}
+
+impl Requests<'_> {
+    pub fn new(out: &mut dyn Write) -> Requests<'_> {
+        Requests { out }
+    }
+
+    pub fn ask(&mut self, name: &str, words: &[Word]) {
+        let mut line = Vec::new();
+        write_line(Some(name), words, &mut line);
+        self.out.write_all(&line).expect("cannot write");
+    }
+
+    /// A line as it stands, its line feed not included.
+    pub fn line(&mut self, line: &[u8]) {
+        self.out.write_all(line).expect("cannot write");
+        self.out.write_all(b"\n").expect("cannot write");
+    }
+}
+
+/// The answer to one line (without its line feed), with a line feed.
+pub fn answer(layers: &[&Layer], line: &[u8]) -> Vec<u8> {
+    let mut out = Vec::new();
+    match answer_words(layers, line) {
+        Some(words) => write_line(None, &words, &mut out),
+        None => out.extend(b"?\n"),
+    }
+    out
+}
+
+fn answer_words(layers: &[&Layer], line: &[u8]) -> Option<Vec<Word>> {
+    let (name, words) = read_line(line)?;
+    let entry = layers.iter().flat_map(|layer| layer.entries).find(|entry| entry.name.as_bytes() == name)?;
+    (entry.answer)(&words)
+}
+
+/// Random requests of a layer; about one line in twenty is damaged.
+pub fn random_run(layer: &Layer, seed: u64, count: u64, out: &mut dyn Write) {
+    let mut random = Random::new(seed);
+    for _ in 0..count {
+        let entry = random.pick(layer.entries);
+        let mut line = Vec::new();
+        write_line(Some(entry.name), &(entry.random)(&mut random), &mut line);
+        line.pop();
+        if random.one_in(20) {
+            damage(&mut line, &mut random);
+        }
+        line.push(b'\n');
+        out.write_all(&line).expect("cannot write");
+    }
+}
+
+/// One small change of a line; it may still be a request.
+fn damage(line: &mut Vec<u8>, random: &mut Random) {
+    let place = random.below(line.len() as u64) as usize;
+    // The first bytes hold the name and the starts of words; the rest is mostly hex digits.
+    let place = if random.one_in(2) { place.min(place % 24) } else { place };
+    let byte = *random.pick(b" xX*0123456789abcdefgAF?,\r\t\0\xff");
+    match random.below(7) {
+        0 => line[place] = byte,
+        1 => line.insert(place, byte),
+        2 => {
+            line.remove(place);
+        }
+        3 => line.truncate(place),
+        4 => line.push(byte),
+        5 => line.extend(b" x00"),
+        _ => line.make_ascii_uppercase(),
+    }
+}
+
+/// Lines that are no request of any entry, for a layer that has `entry`, which
+/// takes one string of bytes first.
+pub fn lines_that_are_no_request(requests: &mut Requests, entry: &str) {
+    for line in ["", " ", "  ", "?", "#", "x", "x00", "0", "nothing", "nothing x00", "*", "\t", "\r"] {
+        requests.line(line.as_bytes());
+    }
+    let upper = entry.to_uppercase();
+    for line in [
+        format!(" {entry} x00"),
+        format!("{entry}  x00"),
+        format!("{entry} "),
+        format!("{entry} x00 "),
+        format!("{entry}\tx00"),
+        format!("{entry} x00\r"),
+        format!("{upper} x00"),
+        format!("{entry}x00"),
+        format!("{entry}s x00"),
+        format!("{} x00", &entry[..entry.len() - 1]),
+    ] {
+        requests.line(line.as_bytes());
+    }
+    for word in [
+        "", "X00", "x0", "x000", "xAB", "x0g", "xg0", "x 00", "00", "0x00", "*61", "3*", "3*6", "3*616", "3*6G", "3*AB", "3**61", "3*x61",
+        "-1*61", "+1*61", "1.0*61", "x*61", "61*", "3 *61", "3* 61", "1e3*61", "abc", "\"abc\"", "\u{e9}",
+    ] {
+        requests.line(format!("{entry} {word}").as_bytes());
+    }
+    requests.line(&[entry.as_bytes(), b" x\xff\xfe"].concat());
+    requests.line(&[entry.as_bytes(), b" x0\x00"].concat());
+    requests.line(&[entry.as_bytes(), b" x/0"].concat());
+    requests.line(&[entry.as_bytes(), b" x0:"].concat());
+    requests.line(&[entry.as_bytes(), b" x`0"].concat());
+}
+
+#[cfg(test)]
+mod tests {
+    use super::*;
+
+    fn written(write: impl Fn(&mut Requests)) -> Vec<u8> {
+        let mut out = Vec::new();
+        write(&mut Requests::new(&mut out));
+        out
+    }
+
+    fn answers(layers: &[&Layer], requests: &[u8]) -> Vec<u8> {
+        requests.strip_suffix(b"\n").unwrap().split(|c| *c == b'\n').flat_map(|line| answer(layers, line)).collect()
+    }
+
+    #[test]
+    fn names_are_used_once() {
+        let mut names: Vec<&str> = LAYERS.iter().flat_map(|layer| layer.entries).map(|entry| entry.name).collect();
+        names.sort();
+        let count = names.len();
+        names.dedup();
+        assert_eq!(names.len(), count);
+    }
+
+    #[test]
+    fn committed_files_stay_small() {
+        for layer in LAYERS {
+            let requests = written(layer.cases);
+            let answers = answers(&[layer], &requests);
+            assert!(requests.len() + answers.len() < 1_000_000, "{}: {} and {}", layer.name, requests.len(), answers.len());
+            assert_eq!(requests, written(layer.cases));
+        }
+    }
+
+    #[test]
+    fn no_request_is_answered_with_a_question_mark() {
+        let requests = written(|requests| lines_that_are_no_request(requests, "digest"));
+        for line in requests.strip_suffix(b"\n").unwrap().split(|c| *c == b'\n') {
+            assert_eq!(answer(LAYERS, line), b"?\n", "{}", String::from_utf8_lossy(line));
+        }
+    }
+
+    #[test]
+    fn random_runs_repeat_and_reach_every_entry() {
+        for layer in LAYERS {
+            let run = || {
+                let mut out = Vec::new();
+                random_run(layer, 7, 600, &mut out);
+                out
+            };
+            let requests = run();
+            assert_eq!(requests, run());
+            for entry in layer.entries {
+                let start = format!("{} ", entry.name);
+                let asked = requests.split(|c| *c == b'\n').filter(|line| line.starts_with(start.as_bytes()));
+                let answered = asked.filter(|line| answer(&[layer], line) != b"?\n").count();
+                assert!(answered > 10, "{}", entry.name);
+            }
+        }
+    }
+}
