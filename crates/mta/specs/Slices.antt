@@ -1,0 +1,46 @@
+-- Hashes and hash values that C hands over as slices. Assumes nothing.
+use mathlib.Core.Bool.{cond}
+use mathlib.Core.List.{List, [], _∷_, _++_}
+use Prim.Native.Nat.{ℕ}
+use lib.Dec.{eqb, ltb}
+use lib.ListN.{length, drop, getD}
+use Rattle.hash.specs.declared.State.{State}
+use Rattle.hash.specs.Words.{wordFrom}
+use Rattle.hash.specs.Sha256.{compress, schedule}
+use Rattle.hash.specs.Answers.{stepNumber}
+use Rattle.hash.specs.Digest.{nodeHash}
+
+-- ---- a node hash: 5 where a part is not 32 bytes, 9 where out has fewer than 32
+
+unfoldable pub nodeNumber : List ℕ → List ℕ → List ℕ → ℕ
+nodeNumber l r out = cond (eqb (length l) 32) (cond (eqb (length r) 32) (cond (ltb (length out) 32) 9 0) 5) 5
+
+unfoldable pub nodeBytes : List ℕ → List ℕ → List ℕ → List ℕ
+nodeBytes l r out = cond (eqb (nodeNumber l r out) 0) (nodeHash l r ++ drop 32 out) out
+
+-- ---- the block step on a hash value of eight words in memory: the block step's own refusals, then 9 where it is not eight words
+
+abbrev pub stateOf : List ℕ → State
+stateOf l =
+    record {
+      a = getD l 0 0;
+      b = getD l 1 0;
+      c = getD l 2 0;
+      d = getD l 3 0;
+      e = getD l 4 0;
+      f = getD l 5 0;
+      g = getD l 6 0;
+      h = getD l 7 0;
+    }
+
+abbrev pub wordsOf : State → List ℕ
+wordsOf s = s .a ∷ s .b ∷ s .c ∷ s .d ∷ s .e ∷ s .f ∷ s .g ∷ s .h ∷ []
+
+unfoldable pub wordsNumber : List ℕ → List ℕ → List ℕ → ℕ
+wordsNumber l m w = cond (eqb (stepNumber m w) 0) (cond (eqb (length l) 8) 0 9) (stepNumber m w)
+
+unfoldable pub wordsAfter : List ℕ → List ℕ → List ℕ → List ℕ
+wordsAfter l m w = cond (eqb (wordsNumber l m w) 0) (wordsOf (compress (stateOf l) (wordFrom m 0))) l
+
+unfoldable pub scheduleAfter : List ℕ → List ℕ → List ℕ → List ℕ
+scheduleAfter l m w = cond (eqb (wordsNumber l m w) 0) (schedule (wordFrom m 0) 64) w
