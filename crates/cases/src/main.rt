@@ -1,0 +1,102 @@
+// Reads requests from standard input and writes one line an answer, through the public functions of the other crates. The format is described in
+// docs/REQUESTS.md. Nothing is promised here: the code is proved safe, and what it prints is compared with what an independent program says.
+mod answer;
+mod hashes;
+mod request;
+
+ghost use Prim.Native.Nat.{_≤_};
+ghost use mathlib.Core.Path.{_≡_};
+ghost use lib.ListN.{length};
+use libc::STDIN_FILENO;
+use libc::STDOUT_FILENO;
+
+fn text_buffer() -> [u8; 262144]
+    ensures { λ r. ⌜ 262144 ≡ length r ⌝ }
+{
+    [0; 262144]
+}
+
+fn memory() -> [u8; 1048576]
+    ensures { λ r. ⌜ 1048576 ≡ length r ⌝ }
+{
+    [0; 1048576]
+}
+
+// Reads more text after the first `have` bytes, and answers how many there are then.
+fn fill(text: &mut [u8], have: usize) -> usize
+    requires { ⌜ have ≤ length (now text) ⌝ }
+    ensures { λ r. ⌜ r ≤ length (now (text .exit)) ⌝ }
+{
+    let more = io::read_full(STDIN_FILENO, &mut text[have..]);
+    have + more
+}
+
+// Moves the bytes from `from` up to `to` to the start, and answers how many they are.
+fn shift(text: &mut [u8], from: usize, to: usize) -> usize
+    requires { ⌜ to ≤ length (now text) ⌝ }
+    ensures { λ r. ⌜ r ≤ length (now (text .exit)) ⌝ }
+{
+    if to < from {
+        return 0;
+    }
+    let n = to - from;
+    let mut j = 0;
+    while j < n {
+        text[j] = text[from + j];
+        j += 1;
+    }
+    n
+}
+
+// Answers the whole lines of a text, and says how many bytes they are.
+fn lines(text: &[u8], mem: &mut [u8], lent: &mut [u8], out: &mut [u8]) -> usize {
+    let mut at = 0;
+    while at < text.len() {
+        let end = bytes::scan::find(text, at, text.len(), b'\n');
+        if end == text.len() {
+            return at;
+        }
+        one(&text[at..end], mem, lent, out);
+        at = end + 1;
+    }
+    at
+}
+
+// Answers one line.
+fn one(line: &[u8], mem: &mut [u8], lent: &mut [u8], out: &mut [u8]) {
+    let n = bytes::scan::find(line, 0, line.len(), b' ');
+    let r = request::parse(line, n, mem);
+    let mut at = 0;
+    if r.good {
+        at = hashes::answer(&line[..n], r, mem, lent, out);
+    }
+    if at == 0 {
+        at = answer::put(out, 0, b'?');
+    }
+    at = answer::put(out, at, b'\n');
+    if at <= out.len() {
+        io::write_all(STDOUT_FILENO, &out[..at]);
+    }
+}
+
+fn serve(text: &mut [u8], mem: &mut [u8], lent: &mut [u8], out: &mut [u8]) {
+    let mut have = 0;
+    let mut turns = u64::MAX;
+    while 0 < turns {
+        let end = fill(text, have);
+        let done = lines(&text[..end], mem, lent, out);
+        if done == 0 {
+            return;
+        }
+        have = shift(text, done, end);
+        turns -= 1;
+    }
+}
+
+fn main() {
+    let mut text = text_buffer();
+    let mut mem = memory();
+    let mut lent = text_buffer();
+    let mut out = memory();
+    serve(&mut text, &mut mem, &mut lent, &mut out);
+}
