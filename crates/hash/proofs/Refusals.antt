@@ -6,18 +6,19 @@ use lib.ListN.{length, drop, replicate}
 use borrow.Author.Tests.{lt-ltb, le-ltb}
 use Rattle.hash.specs.Answers.{valueNumber, valueBytes, intoNumber, intoBytes}
 
-module _ (most : ℕ) (input v out : List ℕ) where
+module _ (most : ℕ) (input v : List ℕ) where
   pub value-long : most < length input → (1 ≡ valueNumber most input) × (replicate 32 0 ≡ valueBytes most input v)
   unfolding valueNumber valueBytes
-  value-long h = (simp (lt-ltb most (length input) h), simp (lt-ltb most (length input) h))
+  value-long h = let e = lt-ltb most (length input) h in (simp e, simp e)
 
   pub value-done : length input ≤ most → (0 ≡ valueNumber most input) × (v ≡ valueBytes most input v)
   unfolding valueNumber valueBytes
-  value-done h = (simp (le-ltb most (length input) h), simp (le-ltb most (length input) h))
+  value-done h = let e = le-ltb most (length input) h in (simp e, simp e)
 
+module _ (most : ℕ) (input v out : List ℕ) where
   pub into-long : most < length input → (1 ≡ intoNumber most input out) × (out ≡ intoBytes most input v out)
   unfolding intoNumber intoBytes
-  into-long h = (simp (lt-ltb most (length input) h), simp (lt-ltb most (length input) h))
+  into-long h = let e = lt-ltb most (length input) h in (simp e, simp e)
 
   pub into-short : length input ≤ most → length out < 32 → (9 ≡ intoNumber most input out) × (out ≡ intoBytes most input v out)
   unfolding intoNumber intoBytes

@@ -4,7 +4,9 @@ mod message;
 pub mod sha256;
 
 ghost use mathlib.Core.Path.{_≡_};
-ghost use mathlib.Core.List.{[]};
+ghost use mathlib.Core.List.{[], _++_};
+ghost use Prim.Native.Nat.{_≤_, _<_};
+ghost use lib.ListN.{length};
 ghost use Rattle.hash.specs.Digest.{sha256, leafHash, nodeHash};
 ghost use Rattle.hash.specs.Answers.{mostInput, mostItem, valueNumber, valueBytes, intoNumber, intoBytes};
 use message::bytes_of;
@@ -46,12 +48,13 @@ pub enum Stepped {
     Refused(u32),
 }
 
-// The digest of the input. 1: the input is too long.
-pub fn digest_of(input: &[u8]) -> Hashed
-    ensures { λ r. ⌜ r .number ≡ valueNumber mostInput (now (input .entry)) ⌝ }
-    ensures { λ r. ⌜ r .digest .bytes ≡ valueBytes mostInput (now (input .entry)) (sha256 (now (input .entry))) ⌝ }
+// The digest of head and then m, by value.
+fn value(most: usize, head: &[u8], m: &[u8]) -> Hashed
+    requires { ⌜ (most ≤ mostInput) × (length (now head) < 64) ⌝ }
+    ensures { λ r. ⌜ r .number ≡ valueNumber most (now (m .entry)) ⌝ }
+    ensures { λ r. ⌜ r .digest .bytes ≡ valueBytes most (now (m .entry)) (sha256 (now (head .entry) ++ now (m .entry))) ⌝ }
 {
-    if MOST_INPUT < input.len() {
+    if most < m.len() {
         return Hashed {
             number: 1,
             digest: Digest { bytes: [0; 32] },
@@ -60,9 +63,33 @@ pub fn digest_of(input: &[u8]) -> Hashed
     Hashed {
         number: 0,
         digest: Digest {
-            bytes: bytes_of(hash_of(b"", input)),
+            bytes: bytes_of(hash_of(head, m)),
         },
     }
+}
+
+// The digest of head and then the input, into a buffer.
+fn into(most: usize, head: &[u8], input: &[u8], out: &mut [u8]) -> u32
+    requires { ⌜ (most ≤ mostInput) × (length (now head) < 64) ⌝ }
+    ensures { λ r. ⌜ r ≡ intoNumber most (now (input .entry)) (now (out .entry)) ⌝ }
+    ensures { λ _. ⌜ now (out .exit) ≡ intoBytes most (now (input .entry)) (sha256 (now (head .entry) ++ now (input .entry))) (now (out .entry)) ⌝ }
+{
+    if most < input.len() {
+        return 1;
+    }
+    if out.len() < 32 {
+        return 9;
+    }
+    put_state(out, hash_of(head, input));
+    0
+}
+
+// The digest of the input. 1: the input is too long.
+pub fn digest_of(input: &[u8]) -> Hashed
+    ensures { λ r. ⌜ r .number ≡ valueNumber mostInput (now (input .entry)) ⌝ }
+    ensures { λ r. ⌜ r .digest .bytes ≡ valueBytes mostInput (now (input .entry)) (sha256 (now (input .entry))) ⌝ }
+{
+    value(MOST_INPUT, b"", input)
 }
 
 // The leaf hash of an item. 1: the item is too long.
@@ -70,18 +97,7 @@ pub fn leaf(item: &[u8]) -> Hashed
     ensures { λ r. ⌜ r .number ≡ valueNumber mostItem (now (item .entry)) ⌝ }
     ensures { λ r. ⌜ r .digest .bytes ≡ valueBytes mostItem (now (item .entry)) (leafHash (now (item .entry))) ⌝ }
 {
-    if MOST_ITEM < item.len() {
-        return Hashed {
-            number: 1,
-            digest: Digest { bytes: [0; 32] },
-        };
-    }
-    Hashed {
-        number: 0,
-        digest: Digest {
-            bytes: bytes_of(hash_of(b"\x00", item)),
-        },
-    }
+    value(MOST_ITEM, b"\x00", item)
 }
 
 // The hash of a node over its two parts.
@@ -109,14 +125,7 @@ pub fn digest_into(input: &[u8], out: &mut [u8]) -> u32
     ensures { λ r. ⌜ r ≡ intoNumber mostInput (now (input .entry)) (now (out .entry)) ⌝ }
     ensures { λ _. ⌜ now (out .exit) ≡ intoBytes mostInput (now (input .entry)) (sha256 (now (input .entry))) (now (out .entry)) ⌝ }
 {
-    if MOST_INPUT < input.len() {
-        return 1;
-    }
-    if out.len() < 32 {
-        return 9;
-    }
-    put_state(out, hash_of(b"", input));
-    0
+    into(MOST_INPUT, b"", input, out)
 }
 
 // The leaf hash of an item into the first 32 bytes of out; 0, or why not. 1: the item is too long. 9: out is too short.
@@ -124,12 +133,5 @@ pub fn leaf_into(item: &[u8], out: &mut [u8]) -> u32
     ensures { λ r. ⌜ r ≡ intoNumber mostItem (now (item .entry)) (now (out .entry)) ⌝ }
     ensures { λ _. ⌜ now (out .exit) ≡ intoBytes mostItem (now (item .entry)) (leafHash (now (item .entry))) (now (out .entry)) ⌝ }
 {
-    if MOST_ITEM < item.len() {
-        return 1;
-    }
-    if out.len() < 32 {
-        return 9;
-    }
-    put_state(out, hash_of(b"\x00", item));
-    0
+    into(MOST_ITEM, b"\x00", item, out)
 }
