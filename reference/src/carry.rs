@@ -9,7 +9,7 @@ use std::collections::HashMap;
 use std::ops::Range;
 
 /// The leaves under a node, from the first to before the last.
-type Leaves = Range<u64>;
+pub type Leaves = Range<u64>;
 
 /// Two strings of 65 bytes, 0x01 || left || right.
 pub const PAIR: usize = 130;
@@ -35,7 +35,7 @@ fn parts(leaves: &Leaves) -> (Leaves, Leaves) {
 }
 
 /// What the nodes of an inclusion path of `place` in these leaves stand for, in the path's order.
-fn inclusion_places(place: u64, leaves: Leaves) -> Vec<Leaves> {
+pub fn inclusion_places(place: u64, leaves: Leaves) -> Vec<Leaves> {
     if leaves.end - leaves.start == 1 {
         return Vec::new();
     }
@@ -48,7 +48,7 @@ fn inclusion_places(place: u64, leaves: Leaves) -> Vec<Leaves> {
 
 /// What the nodes of a consistency path from the first `m` leaves stand for, in
 /// the path's order; `m` counts from 0, not from the part's start.
-fn consistency_places(m: u64, leaves: Leaves, known: bool) -> Vec<Leaves> {
+pub fn consistency_places(m: u64, leaves: Leaves, known: bool) -> Vec<Leaves> {
     if m == leaves.end {
         return if known { Vec::new() } else { vec![leaves] };
     }
@@ -60,25 +60,26 @@ fn consistency_places(m: u64, leaves: Leaves, known: bool) -> Vec<Leaves> {
 }
 
 /// Hashes of some nodes.
-struct Known<'a> {
+pub struct Known {
     h: HashFunction,
-    nodes: HashMap<Leaves, &'a Hash>,
+    nodes: HashMap<Leaves, Hash>,
 }
 
-impl<'a> Known<'a> {
-    fn new(h: HashFunction, places: Vec<Leaves>, nodes: &'a [Hash]) -> Known<'a> {
+impl Known {
+    pub fn new(h: HashFunction, places: Vec<Leaves>, nodes: &[Hash]) -> Known {
         assert_eq!(places.len(), nodes.len());
-        Known { h, nodes: places.into_iter().zip(nodes).collect() }
+        Known { h, nodes: places.into_iter().zip(nodes.iter().copied()).collect() }
     }
 
-    fn with(mut self, leaves: Leaves, hash: &'a Hash) -> Known<'a> {
-        self.nodes.insert(leaves, hash);
+    pub fn with(mut self, leaves: Leaves, hash: &Hash) -> Known {
+        self.nodes.insert(leaves, *hash);
         self
     }
 
-    fn hash(&self, leaves: &Leaves) -> Hash {
+    /// The hash of a node that is known, or whose parts are.
+    pub fn hash(&self, leaves: &Leaves) -> Hash {
         if let Some(hash) = self.nodes.get(leaves) {
-            return **hash;
+            return *hash;
         }
         let (first, rest) = parts(leaves);
         node_hash(self.h, &self.hash(&first), &self.hash(&rest))
@@ -93,7 +94,7 @@ impl<'a> Known<'a> {
 
 /// The full subtree of the first `m` leaves that holds the place: one for each
 /// one-bit of `m`, the largest first.
-fn full_subtree(place: u64, m: u64) -> Leaves {
+pub fn full_subtree(place: u64, m: u64) -> Leaves {
     let mut start = 0;
     for bit in (0..64).rev().map(|bit| 1 << bit).filter(|bit| m & bit != 0) {
         if place < start + bit {

@@ -18,6 +18,7 @@ pub mod yields;
 pub mod layers {
     //! One module a layer: its requests, their answers, its cases and its
     //! random requests.
+    pub mod carry;
     pub mod hash;
     pub mod item;
     pub mod tree;

@@ -23,7 +23,7 @@ pub struct Layer {
 }
 
 /// Every layer. A new one adds its module and its line here.
-pub static LAYERS: &[&Layer] = &[&layers::hash::LAYER, &layers::tree::LAYER, &layers::item::LAYER];
+pub static LAYERS: &[&Layer] = &[&layers::hash::LAYER, &layers::tree::LAYER, &layers::carry::LAYER, &layers::item::LAYER];
 
 pub fn layer(name: &str) -> Option<&'static Layer> {
     LAYERS.iter().copied().find(|layer| layer.name == name)
