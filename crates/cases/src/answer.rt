@@ -1,7 +1,5 @@
 // The words of an answer, written one after the other into a buffer. Each function answers the place after what it wrote; where the buffer is full
 // it writes nothing more.
-ghost use Prim.Native.Nat.{_≤_};
-ghost use lib.ListN.{length};
 
 pub(crate) fn put(out: &mut [u8], at: usize, b: u8) -> usize {
     if at < out.len() {
@@ -21,36 +19,65 @@ fn digit(x: u8) -> u8 {
     b'?'
 }
 
-// A word of bytes, after a space where it isn't the first.
-pub(crate) fn put_bytes(out: &mut [u8], at: usize, s: &[u8]) -> usize {
-    let mut p = space(out, at);
-    p = put(out, p, b'x');
-    let mut i = 0;
-    while i < s.len() {
-        let b = s[i];
-        p = put(out, p, digit(b / 16));
-        p = put(out, p, digit(b % 16));
-        i += 1;
-    }
-    p
+fn put_byte(out: &mut [u8], at: usize, b: u8) -> usize {
+    let p = put(out, at, digit(b / 16));
+    put(out, p, digit(b % 16))
 }
 
-// A number in decimal, after a space where it isn't the first.
-pub(crate) fn put_number(out: &mut [u8], at: usize, n: u64) -> usize {
-    let mut text = [0u8; 20];
-    let k = io::decimal(n, &mut text);
-    let mut p = space(out, at);
-    let mut i = 0;
-    while i < k {
-        p = put(out, p, text[i]);
-        i += 1;
-    }
-    p
-}
-
+// A space before every word but the first.
 fn space(out: &mut [u8], at: usize) -> usize {
     if at == 0 {
         return 0;
     }
     put(out, at, b' ')
+}
+
+// How a word of bytes starts.
+pub(crate) fn start_bytes(out: &mut [u8], at: usize) -> usize {
+    let p = space(out, at);
+    put(out, p, b'x')
+}
+
+pub(crate) fn put_bytes(out: &mut [u8], at: usize, s: &[u8]) -> usize {
+    let mut p = start_bytes(out, at);
+    let mut i = 0;
+    while i < s.len() {
+        p = put_byte(out, p, s[i]);
+        i += 1;
+    }
+    p
+}
+
+// The four bytes of x in a word of bytes, the highest first.
+pub(crate) fn put_word(out: &mut [u8], at: usize, x: u32) -> usize {
+    let mut p = put_byte(out, at, ((x >> 24) % 256) as u8);
+    p = put_byte(out, p, ((x >> 16) % 256) as u8);
+    p = put_byte(out, p, ((x >> 8) % 256) as u8);
+    put_byte(out, p, (x % 256) as u8)
+}
+
+fn put_text(out: &mut [u8], at: usize, s: &[u8]) -> usize {
+    let mut p = at;
+    let mut i = 0;
+    while i < s.len() {
+        p = put(out, p, s[i]);
+        i += 1;
+    }
+    p
+}
+
+pub(crate) fn put_number(out: &mut [u8], at: usize, n: u64) -> usize {
+    let mut text = [0u8; 20];
+    let k = io::decimal(n, &mut text);
+    let p = space(out, at);
+    put_text(out, p, &text[..k])
+}
+
+// The end of a line, after a question mark where there is no answer.
+pub(crate) fn end_line(out: &mut [u8], at: usize) -> usize {
+    if at == 0 {
+        let p = put(out, 0, b'?');
+        return put(out, p, b'\n');
+    }
+    put(out, at, b'\n')
 }

@@ -4,6 +4,8 @@ ghost use mathlib.Core.Path.{_≡_};
 ghost use lib.ListN.{length};
 use crate::answer::put_bytes;
 use crate::answer::put_number;
+use crate::answer::put_word;
+use crate::answer::start_bytes;
 use crate::request::Request;
 use crate::request::field;
 use crate::request::lend;
@@ -33,29 +35,23 @@ fn digest_from(s: &[u8]) -> Digest {
 }
 
 fn node(r: Request, mem: &[u8], out: &mut [u8]) -> usize {
-    let left = field(r, 0, mem);
-    let right = field(r, 1, mem);
-    if left.len() != 32 {
-        return 0;
-    }
-    if right.len() != 32 {
-        return 0;
-    }
-    put_digest(out, 0, hash::node(digest_from(left), digest_from(right)))
+    let left = digest_from(field(r, 0, mem));
+    let right = digest_from(field(r, 1, mem));
+    put_digest(out, 0, hash::node(left, right))
 }
 
 fn digest_into(r: Request, mem: &[u8], lent: &mut [u8], out: &mut [u8]) -> usize {
-    let n = lend(r, 1, mem, lent);
-    let number = hash::digest_into(field(r, 0, mem), &mut lent[..n]);
+    let buffer = lend(r, 1, mem, lent);
+    let number = hash::digest_into(field(r, 0, mem), buffer);
     let at = put_number(out, 0, number as u64);
-    put_bytes(out, at, &lent[..n])
+    put_bytes(out, at, buffer)
 }
 
 fn leaf_into(r: Request, mem: &[u8], lent: &mut [u8], out: &mut [u8]) -> usize {
-    let n = lend(r, 1, mem, lent);
-    let number = hash::leaf_into(field(r, 0, mem), &mut lent[..n]);
+    let buffer = lend(r, 1, mem, lent);
+    let number = hash::leaf_into(field(r, 0, mem), buffer);
     let at = put_number(out, 0, number as u64);
-    put_bytes(out, at, &lent[..n])
+    put_bytes(out, at, buffer)
 }
 
 fn byte_of(s: &[u8], i: usize) -> u32
@@ -75,24 +71,11 @@ fn wide(x: u8) -> u32
 
 // Word t of a list of words, four bytes each, the highest first.
 fn word_of(s: &[u8], t: usize) -> u32 {
-    if t >= 65536 {
+    if t >= 256 {
         return 0;
     }
     let i = 4 * t;
     ((byte_of(s, i) * 256 + byte_of(s, i + 1)) * 256 + byte_of(s, i + 2)) * 256 + byte_of(s, i + 3)
-}
-
-fn put_word(out: &mut [u8], at: usize, x: u32) {
-    if out.len() < 4 {
-        return;
-    }
-    if at > out.len() - 4 {
-        return;
-    }
-    out[at] = ((x >> 24) % 256) as u8;
-    out[at + 1] = ((x >> 16) % 256) as u8;
-    out[at + 2] = ((x >> 8) % 256) as u8;
-    out[at + 3] = (x % 256) as u8;
 }
 
 fn state_from(s: &[u8]) -> State {
@@ -108,69 +91,64 @@ fn state_from(s: &[u8]) -> State {
     }
 }
 
-fn put_state(out: &mut [u8], s: State) {
-    put_word(out, 0, s.a);
-    put_word(out, 4, s.b);
-    put_word(out, 8, s.c);
-    put_word(out, 12, s.d);
-    put_word(out, 16, s.e);
-    put_word(out, 20, s.f);
-    put_word(out, 24, s.g);
-    put_word(out, 28, s.h);
+fn put_state(out: &mut [u8], at: usize, s: State) -> usize {
+    let mut p = start_bytes(out, at);
+    p = put_word(out, p, s.a);
+    p = put_word(out, p, s.b);
+    p = put_word(out, p, s.c);
+    p = put_word(out, p, s.d);
+    p = put_word(out, p, s.e);
+    p = put_word(out, p, s.f);
+    p = put_word(out, p, s.g);
+    put_word(out, p, s.h)
 }
 
-// The words of a list into w: how many they are, or none where they have no room.
-fn words_from(s: &[u8], w: &mut [u32]) -> usize
-    ensures { λ n. ⌜ n ≤ length (now (w .exit)) ⌝ }
+fn words_from(s: &[u8]) -> [u32; 256]
+    ensures { λ r. ⌜ 256 ≡ length r ⌝ }
 {
-    let n = s.len() / 4;
-    if n > w.len() {
-        return 0;
-    }
+    let mut w = [0u32; 256];
     let mut t = 0;
-    while t < n {
+    while t < 256 {
         w[t] = word_of(s, t);
         t += 1;
     }
-    n
+    w
 }
 
-fn words_into(w: &[u32], out: &mut [u8]) {
+fn put_words(out: &mut [u8], at: usize, w: &[u32]) -> usize {
+    let mut p = start_bytes(out, at);
     let mut t = 0;
     while t < w.len() {
-        if t < 65536 {
-            put_word(out, 4 * t, w[t]);
-        }
+        p = put_word(out, p, w[t]);
         t += 1;
+    }
+    p
+}
+
+fn put_stepped(s: State, block: &[u8], w: &mut [u32], out: &mut [u8]) -> usize {
+    match hash::sha256::step(s, block, w) {
+        Stepped::Done(after) => {
+            let at = put_number(out, 0, 0);
+            let p = put_state(out, at, after);
+            put_words(out, p, w)
+        }
+        Stepped::Refused(number) => {
+            let at = put_number(out, 0, number as u64);
+            let p = put_state(out, at, s);
+            put_words(out, p, w)
+        }
     }
 }
 
-// The state is eight words, the schedule at most 256.
-fn step(r: Request, mem: &[u8], lent: &mut [u8], out: &mut [u8]) -> usize {
-    let given = field(r, 0, mem);
-    if given.len() != 32 {
+fn step(r: Request, mem: &[u8], out: &mut [u8]) -> usize {
+    let given = field(r, 2, mem);
+    let n = given.len() / 4;
+    if n > 256 {
         return 0;
     }
-    let mut w = [0u32; 256];
-    let words: &mut [u32] = &mut w;
-    let n = words_from(field(r, 2, mem), words);
-    let s = state_from(given);
-    let mut number: u32 = 0;
-    let mut after = s;
-    match hash::sha256::step(s, field(r, 1, mem), &mut words[..n]) {
-        Stepped::Done(x) => after = x,
-        Stepped::Refused(x) => number = x,
-    }
-    let mut b = [0u8; 32];
-    put_state(&mut b, after);
-    let mut at = put_number(out, 0, number as u64);
-    at = put_bytes(out, at, &b);
-    words_into(&words[..n], lent);
-    let m = 4 * n;
-    if m > lent.len() {
-        return 0;
-    }
-    put_bytes(out, at, &lent[..m])
+    let mut w = words_from(given);
+    let s = state_from(field(r, 0, mem));
+    put_stepped(s, field(r, 1, mem), &mut w[..n], out)
 }
 
 // Where the answer ends in out, or 0 where the line names none of these entries.
@@ -181,23 +159,23 @@ pub(crate) fn answer(
     lent: &mut [u8],
     out: &mut [u8],
 ) -> usize {
-    if names(name, b"digest", r, 1) {
+    if names(name, b"digest", r, b"b") {
         return put_hashed(out, hash::digest_of(field(r, 0, mem)));
     }
-    if names(name, b"leaf", r, 1) {
+    if names(name, b"leaf", r, b"b") {
         return put_hashed(out, hash::leaf(field(r, 0, mem)));
     }
-    if names(name, b"node", r, 2) {
+    if names(name, b"node", r, b"hh") {
         return node(r, mem, out);
     }
-    if names(name, b"digest_into", r, 2) {
+    if names(name, b"digest_into", r, b"bl") {
         return digest_into(r, mem, lent, out);
     }
-    if names(name, b"leaf_into", r, 2) {
+    if names(name, b"leaf_into", r, b"bl") {
         return leaf_into(r, mem, lent, out);
     }
-    if names(name, b"step", r, 3) {
-        return step(r, mem, lent, out);
+    if names(name, b"step", r, b"hbw") {
+        return step(r, mem, out);
     }
     0
 }

@@ -9,16 +9,15 @@ ghost use mathlib.Core.Path.{_≡_};
 ghost use lib.ListN.{length};
 use libc::STDIN_FILENO;
 use libc::STDOUT_FILENO;
+use request::Request;
+use request::parse;
+use request::part;
 
-fn text_buffer() -> [u8; 262144]
-    ensures { λ r. ⌜ 262144 ≡ length r ⌝ }
-{
+fn text_buffer() -> [u8; 262144] {
     [0; 262144]
 }
 
-fn memory() -> [u8; 1048576]
-    ensures { λ r. ⌜ 1048576 ≡ length r ⌝ }
-{
+fn memory() -> [u8; 1048576] {
     [0; 1048576]
 }
 
@@ -56,7 +55,7 @@ fn lines(text: &[u8], mem: &mut [u8], lent: &mut [u8], out: &mut [u8]) -> usize 
         if end == text.len() {
             return at;
         }
-        one(&text[at..end], mem, lent, out);
+        one(part(text, at, end), mem, lent, out);
         at = end + 1;
     }
     at
@@ -65,18 +64,18 @@ fn lines(text: &[u8], mem: &mut [u8], lent: &mut [u8], out: &mut [u8]) -> usize 
 // Answers one line.
 fn one(line: &[u8], mem: &mut [u8], lent: &mut [u8], out: &mut [u8]) {
     let n = bytes::scan::find(line, 0, line.len(), b' ');
-    let r = request::parse(line, n, mem);
-    let mut at = 0;
+    let r = parse(line, n, mem);
+    let at = answered(part(line, 0, n), r, mem, lent, out);
+    let end = answer::end_line(out, at);
+    io::write_all(STDOUT_FILENO, part(out, 0, end));
+}
+
+// Where the answer ends in out, or 0 where the line is no request.
+fn answered(name: &[u8], r: Request, mem: &[u8], lent: &mut [u8], out: &mut [u8]) -> usize {
     if r.good {
-        at = hashes::answer(&line[..n], r, mem, lent, out);
+        return hashes::answer(name, r, mem, lent, out);
     }
-    if at == 0 {
-        at = answer::put(out, 0, b'?');
-    }
-    at = answer::put(out, at, b'\n');
-    if at <= out.len() {
-        io::write_all(STDOUT_FILENO, &out[..at]);
-    }
+    0
 }
 
 fn serve(text: &mut [u8], mem: &mut [u8], lent: &mut [u8], out: &mut [u8]) {
@@ -84,7 +83,7 @@ fn serve(text: &mut [u8], mem: &mut [u8], lent: &mut [u8], out: &mut [u8]) {
     let mut turns = u64::MAX;
     while 0 < turns {
         let end = fill(text, have);
-        let done = lines(&text[..end], mem, lent, out);
+        let done = lines(part(text, 0, end), mem, lent, out);
         if done == 0 {
             return;
         }
@@ -93,10 +92,19 @@ fn serve(text: &mut [u8], mem: &mut [u8], lent: &mut [u8], out: &mut [u8]) {
     }
 }
 
+fn run(
+    text: &mut [u8; 262144],
+    mem: &mut [u8; 1048576],
+    lent: &mut [u8; 262144],
+    out: &mut [u8; 1048576],
+) {
+    serve(text, mem, lent, out);
+}
+
 fn main() {
     let mut text = text_buffer();
     let mut mem = memory();
     let mut lent = text_buffer();
     let mut out = memory();
-    serve(&mut text, &mut mem, &mut lent, &mut out);
+    run(&mut text, &mut mem, &mut lent, &mut out);
 }

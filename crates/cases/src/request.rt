@@ -1,26 +1,35 @@
 // A request's arguments: each a part of one memory, or a number.
 ghost use Prim.Native.Nat.{_≤_, _<_};
 ghost use lib.ListN.{length};
+use crate::answer::put;
 
-// The arguments of a line: where the bytes of each lie in the memory, and the number of each.
+const NONE: u8 = 0;
+
+const NUMBER: u8 = 1;
+
+const BYTES: u8 = 2;
+
+// The arguments of a line, as many as `count`: the kind of each, where its bytes lie in the memory, and its number.
 pub struct Request {
     pub good: bool,
     pub count: usize,
+    pub used: usize,
+    pub kind: [u8; 16],
     pub from: [usize; 16],
     pub to: [usize; 16],
     pub number: [u64; 16],
 }
 
-// One argument: the memory in use after it, and its number.
+// One argument: its kind, the memory in use after it, and its number.
 pub struct Argument {
-    pub good: bool,
+    pub kind: u8,
     pub used: usize,
     pub number: u64,
 }
 
 fn bad() -> Argument {
     Argument {
-        good: false,
+        kind: NONE,
         used: 0,
         number: 0,
     }
@@ -45,28 +54,23 @@ fn digit(b: u8) -> u8
     16
 }
 
-// One step of a number in decimal: x with one digit more.
+// A number in decimal with one digit more.
 fn longer(x: u64, d: u8) -> Argument {
     if d > 9 {
         return bad();
     }
-    if x > 1844674407370955161 {
+    if x > (u64::MAX - d as u64) / 10 {
         return bad();
     }
-    if x == 1844674407370955161 {
-        if d > 5 {
-            return bad();
-        }
-    }
     Argument {
-        good: true,
+        kind: NUMBER,
         used: 0,
         number: x * 10 + d as u64,
     }
 }
 
 // A number in decimal.
-fn decimal(word: &[u8]) -> Argument {
+fn decimal(word: &[u8], used: usize) -> Argument {
     if word.len() == 0 {
         return bad();
     }
@@ -74,16 +78,15 @@ fn decimal(word: &[u8]) -> Argument {
     let mut i = 0;
     while i < word.len() {
         let v = longer(x, digit(word[i]));
-        if v.good {
-            x = v.number;
-        } else {
+        if v.kind == NONE {
             return bad();
         }
+        x = v.number;
         i += 1;
     }
     Argument {
-        good: true,
-        used: 0,
+        kind: NUMBER,
+        used,
         number: x,
     }
 }
@@ -118,12 +121,11 @@ fn hex(word: &[u8], mem: &mut [u8], used: usize) -> Argument {
         if at >= mem.len() {
             return bad();
         }
-        mem[at] = v as u8;
-        at += 1;
+        at = put(mem, at, v as u8);
         i += 2;
     }
     Argument {
-        good: true,
+        kind: BYTES,
         used: at,
         number: 0,
     }
@@ -137,15 +139,25 @@ fn repeat(n: u64, b: u8, mem: &mut [u8], used: usize) -> Argument {
         if at >= mem.len() {
             return bad();
         }
-        mem[at] = b;
-        at += 1;
+        at = put(mem, at, b);
         left -= 1;
     }
     Argument {
-        good: true,
+        kind: BYTES,
         used: at,
         number: 0,
     }
+}
+
+// The bytes of s from `from` up to `to`, or none where s hasn't so many.
+pub(crate) fn part(s: &[u8], from: usize, to: usize) -> &[u8] {
+    if to < from {
+        return &s[..0];
+    }
+    if to > s.len() {
+        return &s[..0];
+    }
+    &s[from..to]
 }
 
 // A count, a star and a byte.
@@ -155,15 +167,15 @@ fn repeated(word: &[u8], star: usize, mem: &mut [u8], used: usize) -> Argument
     if word.len() - star != 3 {
         return bad();
     }
-    let n = decimal(&word[..star]);
+    let n = decimal(part(word, 0, star), used);
+    if n.kind == NONE {
+        return bad();
+    }
     let b = pair(word[star + 1], word[star + 2]);
     if b > 255 {
         return bad();
     }
-    if n.good {
-        return repeat(n.number, b as u8, mem, used);
-    }
-    bad()
+    repeat(n.number, b as u8, mem, used)
 }
 
 // The argument that a word says.
@@ -178,50 +190,53 @@ fn value(word: &[u8], mem: &mut [u8], used: usize) -> Argument {
     if star < word.len() {
         return repeated(word, star, mem, used);
     }
-    let v = decimal(word);
-    Argument {
-        good: v.good,
-        used,
-        number: v.number,
-    }
+    decimal(word, used)
 }
 
-fn none() -> Request {
+fn empty(good: bool) -> Request {
     Request {
-        good: false,
+        good,
         count: 0,
+        used: 0,
+        kind: [0; 16],
         from: [0; 16],
         to: [0; 16],
         number: [0; 16],
     }
 }
 
+// A request with one argument more.
+fn with(given: Request, v: Argument) -> Request {
+    let i = given.count;
+    if i >= 16 {
+        return empty(false);
+    }
+    if v.kind == NONE {
+        return empty(false);
+    }
+    let mut r = given;
+    r.kind[i] = v.kind;
+    r.from[i] = r.used;
+    r.to[i] = v.used;
+    r.number[i] = v.number;
+    r.used = v.used;
+    r.count = i + 1;
+    r
+}
+
 // The arguments of a line whose name ends at `start`.
 pub(crate) fn parse(line: &[u8], start: usize, mem: &mut [u8]) -> Request {
-    let mut r = none();
+    let mut r = empty(true);
     let mut at = start;
-    let mut used = 0;
-    let mut i = 0;
     while at < line.len() {
-        if i >= 16 {
-            return none();
-        }
         let first = at + 1;
         let end = bytes::scan::find(line, first, line.len(), b' ');
-        let v = value(&line[first..end], mem, used);
-        if v.good {
-            r.from[i] = used;
-            r.to[i] = v.used;
-            r.number[i] = v.number;
-            used = v.used;
-        } else {
-            return none();
+        r = with(r, value(part(line, first, end), mem, r.used));
+        if !r.good {
+            return r;
         }
         at = end;
-        i += 1;
     }
-    r.good = true;
-    r.count = i;
     r
 }
 
@@ -230,15 +245,7 @@ pub(crate) fn field(r: Request, i: usize, mem: &[u8]) -> &[u8] {
     if i >= 16 {
         return &mem[..0];
     }
-    let a = r.from[i];
-    let e = r.to[i];
-    if e < a {
-        return &mem[..0];
-    }
-    if e > mem.len() {
-        return &mem[..0];
-    }
-    &mem[a..e]
+    part(mem, r.from[i], r.to[i])
 }
 
 pub(crate) fn number(r: Request, i: usize) -> u64 {
@@ -248,21 +255,61 @@ pub(crate) fn number(r: Request, i: usize) -> u64 {
     r.number[i]
 }
 
-// The bytes of argument i in a buffer that can be lent, from its start: how many they are. None where they have no room.
-pub(crate) fn lend(r: Request, i: usize, mem: &[u8], lent: &mut [u8]) -> usize
-    ensures { λ n. ⌜ n ≤ length (now (lent .exit)) ⌝ }
-{
+// The bytes of argument i in a buffer that is lent.
+pub(crate) fn lend<'a>(r: Request, i: usize, mem: &[u8], lent: &'a mut [u8]) -> &'a mut [u8] {
     let s = field(r, i, mem);
-    if s.len() > lent.len() {
-        return 0;
+    let n = s.len();
+    if n > lent.len() {
+        return &mut lent[..0];
     }
-    bytes::copy(s, lent)
+    bytes::copy(s, lent);
+    &mut lent[..n]
 }
 
-// Whether a line names an entry, with as many arguments as it has.
-pub(crate) fn names(name: &[u8], entry: &[u8], r: Request, count: usize) -> bool {
-    if r.count != count {
+// Whether argument i is what a letter says: a number, a number of 16 bits (s), bytes, a hash, 32-bit words or a buffer to lend.
+fn fits(r: Request, i: usize, letter: u8) -> bool {
+    if i >= 16 {
         return false;
+    }
+    let kind = r.kind[i];
+    let from = r.from[i];
+    let to = r.to[i];
+    if kind == NUMBER {
+        if letter == b's' {
+            return r.number[i] < 65536;
+        }
+        return letter == b'n';
+    }
+    if to < from {
+        return false;
+    }
+    let n = to - from;
+    if letter == b'h' {
+        return n == 32;
+    }
+    if letter == b'w' {
+        if n > 1024 {
+            return false;
+        }
+        return n % 4 == 0;
+    }
+    if letter == b'l' {
+        return n <= 262144;
+    }
+    letter == b'b'
+}
+
+// Whether a line names an entry, with the arguments that it takes: a letter for each.
+pub(crate) fn names(name: &[u8], entry: &[u8], r: Request, letters: &[u8]) -> bool {
+    if r.count != letters.len() {
+        return false;
+    }
+    let mut i = 0;
+    while i < letters.len() {
+        if !fits(r, i, letters[i]) {
+            return false;
+        }
+        i += 1;
     }
     check::same(name, entry)
 }
