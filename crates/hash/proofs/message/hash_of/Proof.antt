@@ -1,3 +1,4 @@
+use native.Mathlib.Omega.{arith}
 use borrow.Author.Needs.{needs}
 use denote.Ref.{now}
 use mathlib.Core.Path.{refl, _∙_}
@@ -17,4 +18,4 @@ returns-2 : tie.Need-returns-2
 returns-2 c = c .before .long .ensures
 
 pub hash-of-spec : {M : Type 1} → statement M
-hash-of-spec = tie.close (tie.spec (λ c. search needs) (λ c. search needs) (λ c. search needs) (λ c. search needs) returns (λ c. search needs) (λ c. search needs) returns-2)
+hash-of-spec = tie.close (tie.spec (λ c. omega arith) (λ c. search needs) (λ c. search needs) (λ c. search needs) returns (λ c. search needs) (λ c. search needs) returns-2)

@@ -56,4 +56,4 @@ returns c =
     ∙ long-ends compress compress-same initial (l .v) (now (a .head)) m _ _ (l .p) ((length (now (a .head)) + l .p) / 64) _ (l .inv .0) (omega arith) refl (l .inv .4) (l .inv .3) (take-all (length m - l .p) (drop (l .p) m) (rw length-drop (le-refl _)))
 
 pub long-spec : {M : Type 1} → statement M
-long-spec = tie.close (tie.spec Inv-loop μ-loop (λ c. search needs) (λ c. search needs) (λ c. search needs) loop-holds (λ c. search needs) (λ c. search needs) (λ c. search needs) (λ c. search needs) loop-again (λ c. search needs) (λ c. search needs) (λ c. search needs) (λ c. search needs) finish-requires (λ c. search needs) returns)
+long-spec = tie.close (tie.spec Inv-loop μ-loop (λ c. omega arith) (λ c. omega arith) (λ c. search needs) loop-holds (λ c. omega arith) (λ c. search needs) (λ c. omega arith) (λ c. omega arith) loop-again (λ c. search needs) (λ c. omega arith) (λ c. search needs) (λ c. search needs) finish-requires (λ c. search needs) returns)

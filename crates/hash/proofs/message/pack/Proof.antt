@@ -31,4 +31,4 @@ returns c =
     packed x d (c .before .before .before .before .before .before .before .before .before .length-bytes .result) (c .before .before .put .last .1 .0) (a .n) (a .end) (omega arith) (rw l (p .0 .2)) (rw l (p .1 .0)) e (c .before .before .before .before .before .before .before .before .before .length-bytes .ensures) f
 
 pub pack-spec : {M : Type 1} → statement M
-pack-spec = tie.close (tie.spec (λ c. search needs) (λ c. search needs) (λ c. search needs) join-requires (λ c. search needs) (λ c. search needs) (λ c. search needs) put-requires same-length returns)
+pack-spec = tie.close (tie.spec (λ c. omega arith) (λ c. omega arith) (λ c. search needs) join-requires (λ c. omega arith) (λ c. search needs) (λ c. omega arith) put-requires same-length returns)

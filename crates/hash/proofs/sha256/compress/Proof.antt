@@ -1,3 +1,4 @@
+use native.Mathlib.Omega.{arith}
 use borrow.Author.Needs.{needs}
 use denote.Ref.{now}
 use mathlib.Core.Path.{refl, _∙_}
@@ -20,4 +21,4 @@ returns c =
     (c .add-state .ensures ∙ rw (ran .0), whole _ x (search needs) (ran .1))
 
 pub compress-spec : {M : Type 1} → statement M
-compress-spec = tie.close (tie.spec (λ c. search needs) run-requires (λ c. search needs) (λ c. search needs) returns)
+compress-spec = tie.close (tie.spec (λ c. search needs) run-requires (λ c. omega arith) (λ c. search needs) returns)

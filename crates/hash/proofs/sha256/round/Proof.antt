@@ -1,3 +1,4 @@
+use native.Mathlib.Omega.{arith}
 use borrow.Author.Needs.{needs}
 use Rattle.hash.specs.Sha256.{round}
 use Rattle.hash.proofs.sha256.round.Statement.{statement}
@@ -8,4 +9,4 @@ unfolding round
 returns c = cc
 
 pub round-spec : {M : Type 1} → statement M
-round-spec = tie.close (tie.spec (λ c. search needs) (λ c. search needs) (λ c. search needs) (λ c. search needs) returns)
+round-spec = tie.close (tie.spec (λ c. search needs) (λ c. search needs) (λ c. omega arith) (λ c. omega arith) returns)

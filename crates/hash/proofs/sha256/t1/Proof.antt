@@ -1,3 +1,4 @@
+use native.Mathlib.Omega.{arith}
 use borrow.Author.Needs.{needs}
 use Rattle.hash.proofs.sha256.t1.Statement.{statement}
 use Rattle.hash.proofs.sha256.t1.Tie as tie
@@ -6,4 +7,4 @@ returns : tie.Need-returns
 returns c = cc
 
 pub t1-spec : {M : Type 1} → statement M
-t1-spec = tie.close (tie.spec (λ c. search needs) (λ c. search needs) (λ c. search needs) (λ c. search needs) (λ c. search needs) (λ c. search needs) returns)
+t1-spec = tie.close (tie.spec (λ c. search needs) (λ c. omega arith) (λ c. search needs) (λ c. omega arith) (λ c. omega arith) (λ c. omega arith) returns)
