@@ -1,0 +1,96 @@
+-- What a field that was found says. Assumes nothing.
+use mathlib.Core.Path.{_≡_, refl}
+use mathlib.Core.List.{List}
+use mathlib.Core.Bool.{Bool, true, false, cond}
+use Prim.Native.Nat.{ℕ, _+_, _-_, _≤_}
+use native.Mathlib.Omega.{arith}
+use lib.ListN.{length, take, drop, length-drop}
+use lib.Dec.{ltb}
+use lib.Seq.{length-take-le}
+use borrow.Author.Tests.{ltb-false}
+use Rattle.item.specs.declared.layout.Part.{Part}
+use Rattle.item.specs.declared.layout.Inner.{Inner}
+use Rattle.item.specs.declared.layout.Field.{Field}
+use Rattle.item.specs.declared.layout.Field.the-variants.{Uint, Vector}
+use Rattle.item.specs.declared.layout.FieldRead.the-variants.{Found, Bad}
+use Rattle.item.specs.declared.layout.Inside.{Inside}
+use Rattle.item.specs.declared.layout.Inside.the-variants.{Fine, Wrong}
+use Rattle.item.specs.Layout.{unbe, inside, field, whole}
+use Rattle.item.proofs.Places.{inside-place}
+
+bad-found : {A : Type 0} (x y : ℕ) (p : Part) → Bad x y ≡ Found p → A
+bad-found x y p e = absurd (let z : _≡_ {A = ℕ} 0 1 = cc in omega arith)
+
+same-part : (p q : Part) → Found p ≡ Found q → q ≡ p
+same-part p q e = cc
+
+-- a number that was found
+pub found-number : (w : ℕ) (r : List ℕ) (at : ℕ) (p : Part) → field (Uint w) r at ≡ Found p → (p ≡ record { start = at; len = w; value = unbe (take w r) }) × (w ≤ length r)
+unfolding field
+found-number w r at p e = go (ltb (length r) w) refl e
+  where
+    go : (b : Bool) → ltb (length r) w ≡ b → cond b (Bad 2 at) (Found (record { start = at; len = w; value = unbe (take w r) })) ≡ Found p → (p ≡ record { start = at; len = w; value = unbe (take w r) }) × (w ≤ length r)
+    go true h e = bad-found 2 at p e
+    go false h e = (same-part _ _ e, ltb-false (length r) w h)
+
+-- a vector that was found
+pub record FoundVector (w least most : ℕ) (i : Inner) (r : List ℕ) (at : ℕ) (p : Part) : Type 0 where
+  pub is : p ≡ record { start = at + w; len = unbe (take w r); value = unbe (take w r) }
+  pub prefix : w ≤ length r
+  pub low : least ≤ unbe (take w r)
+  pub high : unbe (take w r) ≤ most
+  pub room : unbe (take w r) ≤ length r - w
+  pub fine : inside i (take (unbe (take w r)) (drop w r)) (at + w) ≡ Fine
+
+pub found-vector : (w least most : ℕ) (i : Inner) (r : List ℕ) (at : ℕ) (p : Part) → field (Vector w least most i) r at ≡ Found p → FoundVector w least most i r at p
+unfolding field
+found-vector w least most i r at p e =
+    go (ltb (length r) w) (ltb n least) (ltb most n) (ltb (length r - w) n) (inside i (take n (drop w r)) (at + w)) refl refl refl refl refl e
+  where
+    n : ℕ
+    n = unbe (take w r)
+
+    go : (a b c d : Bool) (x : Inside) → ltb (length r) w ≡ a → ltb n least ≡ b → ltb most n ≡ c → ltb (length r - w) n ≡ d → inside i (take n (drop w r)) (at + w) ≡ x → cond a (Bad 2 at) (cond b (Bad 5 at) (cond c (Bad 5 at) (cond d (Bad 2 at) (whole x (record { start = at + w; len = n; value = n }))))) ≡ Found p → FoundVector w least most i r at p
+    go true b c d x ha hb hc hd hx e = bad-found 2 at p e
+    go false true c d x ha hb hc hd hx e = bad-found 5 at p e
+    go false false true d x ha hb hc hd hx e = bad-found 5 at p e
+    go false false false true x ha hb hc hd hx e = bad-found 2 at p e
+    go false false false false (Wrong y z) ha hb hc hd hx e = bad-found y z p e
+    go false false false false Fine ha hb hc hd hx e =
+        record { is = same-part _ _ e; prefix = ltb-false _ _ ha; low = ltb-false _ _ hb; high = ltb-false _ _ hc; room = ltb-false _ _ hd; fine = hx }
+
+-- a field that was found lies within the bytes
+pub found-within : (f : Field) (r : List ℕ) (at : ℕ) (p : Part) → field f r at ≡ Found p → p .start + p .len ≤ at + length r
+found-within (Uint w) r at p e = let h = found-number w r at p e in rw (h .0) (omega arith)
+found-within (Vector w least most i) r at p e =
+    let h = found-vector w least most i r at p e in rw (h .is) (omega (arith, h .room, h .prefix))
+
+found-bad : {A : Type 0} (x y : ℕ) (p : Part) → Found p ≡ Bad x y → A
+found-bad x y p e = absurd (let z : _≡_ {A = ℕ} 0 1 = cc in omega arith)
+
+same-place : (x y p q : ℕ) → Bad x p ≡ Bad y q → q ≡ p
+same-place x y p q e = cc
+
+-- a field that was refused was refused within the bytes, or at their end
+pub refused-within : (f : Field) (r : List ℕ) (at x y : ℕ) → field f r at ≡ Bad x y → y ≤ at + length r
+unfolding field
+refused-within (Uint w) r at x y e = go (ltb (length r) w) e
+  where
+    go : (b : Bool) → cond b (Bad 2 at) (Found (record { start = at; len = w; value = unbe (take w r) })) ≡ Bad x y → y ≤ at + length r
+    go true e = omega (arith, same-place 2 x at y e)
+    go false e = found-bad x y _ e
+refused-within (Vector w least most i) r at x y e =
+    go (ltb (length r) w) (ltb n least) (ltb most n) (ltb (length r - w) n) (inside i (take n (drop w r)) (at + w)) refl refl refl e
+  where
+    n : ℕ
+    n = unbe (take w r)
+
+    go : (a b c d : Bool) (z : Inside) → ltb (length r) w ≡ a → ltb (length r - w) n ≡ d → inside i (take n (drop w r)) (at + w) ≡ z → cond a (Bad 2 at) (cond b (Bad 5 at) (cond c (Bad 5 at) (cond d (Bad 2 at) (whole z (record { start = at + w; len = n; value = n }))))) ≡ Bad x y → y ≤ at + length r
+    go true b c d z ha hd hz e = omega (arith, same-place 2 x at y e)
+    go false true c d z ha hd hz e = omega (arith, same-place 5 x at y e)
+    go false false true d z ha hd hz e = omega (arith, same-place 5 x at y e)
+    go false false false true z ha hd hz e = omega (arith, same-place 2 x at y e)
+    go false false false false Fine ha hd hz e = found-bad x y _ e
+    go false false false false (Wrong u v) ha hd hz e =
+        let l : length (take n (drop w r)) ≡ n = length-take-le n (drop w r) (rw (length-drop w r) (ltb-false _ _ hd)) in
+        omega (arith, same-place u x v y e, inside-place i (take n (drop w r)) (at + w) u v hz, ltb-false (length r) w ha, ltb-false (length r - w) n hd)

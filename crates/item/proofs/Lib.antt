@@ -1,0 +1,17 @@
+pub mod Answers
+pub mod Digits
+pub mod Elements
+pub mod Places
+pub mod Founds
+pub mod Bodies
+pub mod Fills
+pub mod Vectors
+pub mod Rounds
+pub mod Within
+pub mod Reading
+pub mod Rows
+pub mod Writing
+pub mod Putting
+pub mod Items
+pub mod Strings
+pub mod Newest

@@ -1,0 +1,58 @@
+-- Over any layout: every part that is read, and the place of every refusal, lies within the bytes. Assumes nothing.
+use mathlib.Core.Path.{_≡_, refl, subst}
+use mathlib.Core.List.{List, [], _∷_}
+use mathlib.Core.Bool.{Bool, true, false, cond}
+use Prim.Native.Nat.{ℕ, _+_, _≤_}
+use native.Mathlib.Omega.{arith}
+use lib.ListN.{length, drop, length-drop}
+use lib.Dec.{ltb}
+use Rattle.item.specs.declared.layout.Part.{Part}
+use Rattle.item.specs.declared.layout.Field.{Field}
+use Rattle.item.specs.declared.layout.FieldRead.{FieldRead}
+use Rattle.item.specs.declared.layout.FieldRead.the-variants.{Found, Bad}
+use Rattle.item.specs.Answer.{Answer, good, bad}
+use Rattle.item.specs.Layout.{field, next, push, read}
+use Rattle.item.specs.Claims.{Each}
+use Rattle.item.proofs.Answers.{bad-good, good-bad, same-good, same-place}
+use Rattle.item.proofs.Founds.{found-within, refused-within}
+
+module _ (s : List ℕ) where
+  abbrev Inside : Part → Type 0
+  Inside p = p .start + p .len ≤ length s
+
+  found-inside : (f : Field) (at : ℕ) (p : Part) → at ≤ length s → field f (drop at s) at ≡ Found p → Inside p
+  found-inside f at p h e = omega (arith, found-within f (drop at s) at p e, length-drop at s)
+
+  pub parts-within : (fs : List Field) (at : ℕ) (ps : List Part) → at ≤ length s → read fs s at ≡ good ps → Each Inside ps
+  unfolding read
+  parts-within [] at ps h e = go (ltb at (length s)) e
+    where
+      go : (b : Bool) → cond b (bad 3 at) (good []) ≡ good ps → Each Inside ps
+      go true e = bad-good 3 at ps e
+      go false e = subst (λ (x : List Part). Each Inside x) (same-good [] ps e) tt
+  parts-within (f ∷ fs) at ps h e = go (field f (drop at s) at) refl e (λ p. parts-within fs (p .start + p .len))
+    where
+      go : (x : FieldRead) → field f (drop at s) at ≡ x → next x (λ p. push p (read fs s (p .start + p .len))) ≡ good ps → ((p : Part) (qs : List Part) → Inside p → read fs s (p .start + p .len) ≡ good qs → Each Inside qs) → Each Inside ps
+      go (Bad x y) hx e less = bad-good x y ps e
+      go (Found p) hx e less = more (read fs s (p .start + p .len)) refl e
+        where
+          more : (a : Answer (List Part)) → read fs s (p .start + p .len) ≡ a → push p a ≡ good ps → Each Inside ps
+          more (bad x y) ha e = bad-good x y ps e
+          more (good qs) ha e = let i = found-inside f at p h hx in subst (λ (x : List Part). Each Inside x) (same-good (p ∷ qs) ps e) (i, less p qs i ha)
+
+  pub place-within : (fs : List Field) (at x y : ℕ) → at ≤ length s → read fs s at ≡ bad x y → y ≤ length s
+  unfolding read
+  place-within [] at x y h e = go (ltb at (length s)) refl e
+    where
+      go : (b : Bool) → ltb at (length s) ≡ b → _≡_ {A = Answer (List Part)} (cond b (bad 3 at) (good [])) (bad x y) → y ≤ length s
+      go true q e = omega (arith, same-place 3 x at y e)
+      go false q e = good-bad x y _ e
+  place-within (f ∷ fs) at x y h e = go (field f (drop at s) at) refl e (λ p. place-within fs (p .start + p .len) x y)
+    where
+      go : (z : FieldRead) → field f (drop at s) at ≡ z → next z (λ p. push p (read fs s (p .start + p .len))) ≡ bad x y → ((p : Part) → Inside p → read fs s (p .start + p .len) ≡ bad x y → y ≤ length s) → y ≤ length s
+      go (Bad u v) hz e less = omega (arith, same-place u x v y e, refused-within f (drop at s) at u v hz, length-drop at s)
+      go (Found p) hz e less = more (read fs s (p .start + p .len)) refl e
+        where
+          more : (a : Answer (List Part)) → read fs s (p .start + p .len) ≡ a → push p a ≡ bad x y → y ≤ length s
+          more (good qs) ha e = good-bad x y _ e
+          more (bad u v) ha e = less p (found-inside f at p h hz) (rw ha e)

@@ -1,0 +1,113 @@
+-- Whole items: what the reader answers and what the writer writes (document 01, 'Items'; RFC 9162, sections 4.5 to 4.12). Assumes nothing.
+use Prim.Native.Nat.{ℕ}
+use mathlib.Core.List.{List, [], _∷_, _++_, map}
+use mathlib.Core.Bool.{cond}
+use lib.ListN.{length, take, drop}
+use lib.Dec.{ltb}
+use Rattle.item.specs.declared.layout.Part.{Part}
+use Rattle.item.specs.declared.table.Case.{Case}
+use Rattle.item.specs.declared.table.Case.the-variants.{Entry, Receipt, SignedHead, Consistency, Inclusion, Page}
+use Rattle.item.specs.declared.reader.Item.{Item}
+use Rattle.item.specs.declared.reader.Item.the-variants.{Entry as entry, Receipt as receipt, SignedHead as signedHead, Consistency as consistency, Inclusion as inclusion, Page as page, Refused as refused}
+use Rattle.item.specs.declared.table.Name.{Name}
+use Rattle.item.specs.declared.table.Name.the-variants.{Timestamp, Size, SizeOne, SizeTwo, Place, Agreement, PageNumber, LogId, IssuerKeyHash, Certificate, RootHash, Extensions, Signature, Path, Body}
+use Rattle.item.specs.declared.writer.Numbers.{Numbers}
+use Rattle.item.specs.declared.writer.Written.{Written}
+use Rattle.item.specs.declared.writer.Written.the-variants.{Length, Refused as refusedAt}
+use Rattle.item.specs.Answer.{Answer, good, bad, then}
+use Rattle.item.specs.Layout.{unbe, be, read}
+use Rattle.item.specs.Write.{Value, uint, bytes, Filled, join, write}
+use Rattle.item.specs.Table.{limit, fieldOf, namesOf, layoutOf, types, find}
+
+-- an item that was read: its line of the table, its type, and where its fields lie, in the table's order
+pub record Reading : Type 0 where
+  pub case : Case
+  pub kind : ℕ
+  pub fields : List Part
+
+abbrev pub item : Case → ℕ → List Part → Answer Reading
+item c k ps = good (record { case = c; kind = k; fields = ps })
+
+-- what each case of the reader's answer says
+abbrev pub reading : Item → Answer Reading
+reading (entry k timestamp issuerKeyHash certificate extensions) =
+    item Entry k (timestamp ∷ issuerKeyHash ∷ certificate ∷ extensions ∷ [])
+reading (receipt k logId timestamp extensions signature) =
+    item Receipt k (logId ∷ timestamp ∷ extensions ∷ signature ∷ [])
+reading (signedHead k logId timestamp size rootHash extensions signature) =
+    item SignedHead k (logId ∷ timestamp ∷ size ∷ rootHash ∷ extensions ∷ signature ∷ [])
+reading (consistency k logId sizeOne sizeTwo path) =
+    item Consistency k (logId ∷ sizeOne ∷ sizeTwo ∷ path ∷ [])
+reading (inclusion k logId size place path) =
+    item Inclusion k (logId ∷ size ∷ place ∷ path ∷ [])
+reading (page k timestamp agreement number body) =
+    item Page k (timestamp ∷ agreement ∷ number ∷ body ∷ [])
+reading (refused number place) = bad number place
+
+-- a whole item: 1 at 0 if it is too long; then the two bytes of its type; then its fields
+unfoldable pub readItem : List ℕ → Answer Reading
+readItem s =
+    cond (ltb limit (length s)) (bad 1 0)
+    (cond (ltb (length s) 2) (bad 2 0)
+    (then (find types (unbe (take 2 s))) (λ c. then (read (layoutOf c) s 2) (item c (unbe (take 2 s))))))
+
+-- the bytes that the writer is given for each vector: extensions as their encoded elements, a path as joined hashes
+pub record Vectors : Type 0 where
+  pub logId : List ℕ
+  pub issuerKeyHash : List ℕ
+  pub certificate : List ℕ
+  pub rootHash : List ℕ
+  pub extensions : List ℕ
+  pub signature : List ℕ
+  pub path : List ℕ
+  pub body : List ℕ
+
+abbrev pub vectors : List ℕ → List ℕ → List ℕ → List ℕ → List ℕ → List ℕ → List ℕ → List ℕ → Vectors
+vectors l i c r x g p b =
+    record { logId = l; issuerKeyHash = i; certificate = c; rootHash = r; extensions = x; signature = g; path = p; body = b }
+
+-- what the writer is given by a field's name
+abbrev pub valueOf : Numbers → Vectors → Name → Value
+valueOf n t Timestamp = uint (n .timestamp)
+valueOf n t Size = uint (n .size)
+valueOf n t SizeOne = uint (n .«size_one»)
+valueOf n t SizeTwo = uint (n .«size_two»)
+valueOf n t Place = uint (n .place)
+valueOf n t Agreement = uint (n .agreement)
+valueOf n t PageNumber = uint (n .page)
+valueOf n t LogId = bytes (t .logId)
+valueOf n t IssuerKeyHash = bytes (t .issuerKeyHash)
+valueOf n t Certificate = bytes (t .certificate)
+valueOf n t RootHash = bytes (t .rootHash)
+valueOf n t Extensions = bytes (t .extensions)
+valueOf n t Signature = bytes (t .signature)
+valueOf n t Path = bytes (t .path)
+valueOf n t Body = bytes (t .body)
+
+abbrev pub filled : Numbers → Vectors → List Name → List Filled
+filled n t ns = map (λ (x : Name). record { field = fieldOf x; value = valueOf n t x }) ns
+
+-- what each case of the writer's answer says
+abbrev pub writing : Written → Answer ℕ
+writing (Length n) = good n
+writing (refusedAt number place) = bad number place
+
+-- what the writer answers, and what the lent bytes then hold
+pub record Outcome : Type 0 where
+  pub answer : Answer ℕ
+  pub bytes : List ℕ
+
+abbrev pub unwritten : ℕ → ℕ → List ℕ → Outcome
+unwritten x at out = record { answer = bad x at; bytes = out }
+
+abbrev pub wrote : List ℕ → List ℕ → Outcome
+wrote b out = record { answer = good (length b); bytes = b ++ drop (length b) out }
+
+-- an item put into the lent bytes; 9 at 0 where it does not fit; a refusal leaves the bytes as they are
+abbrev pub outcome : List ℕ → Answer (List ℕ) → Outcome
+outcome out (bad x at) = unwritten x at out
+outcome out (good b) = cond (ltb (length out) (length b)) (unwritten 9 0 out) (wrote b out)
+
+-- a whole item: the two bytes of its type, then its fields
+unfoldable pub writeItem : ℕ → Numbers → Vectors → List ℕ → Outcome
+writeItem k n t out = outcome out (then (find types k) (λ c. join (be 2 k) (write (filled n t (namesOf c)) 2)))

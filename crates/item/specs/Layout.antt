@@ -1,0 +1,103 @@
+-- Reading by a layout, which is a list of fields. Numbers are big-endian (RFC 9162, section 1.2, and RFC 8446, section 3). Assumes nothing.
+use Prim.Native.Nat.{ℕ, zero, suc, _+_, _-_, _*_, _^_, _/_, _%_, _<_}
+use mathlib.Core.List.{List, [], _∷_}
+use mathlib.Core.Bool.{cond}
+use lib.ListN.{length, getD, take, drop}
+use lib.Dec.{ltb, eqb}
+use Rattle.item.specs.declared.layout.Part.{Part}
+use Rattle.item.specs.declared.layout.Inner.{Inner}
+use Rattle.item.specs.declared.layout.Inner.the-variants.{Opaque, ExtensionList, NodeList}
+use Rattle.item.specs.declared.layout.Field.{Field}
+use Rattle.item.specs.declared.layout.Field.the-variants.{Uint, Vector}
+use Rattle.item.specs.declared.layout.FieldRead.{FieldRead}
+use Rattle.item.specs.declared.layout.FieldRead.the-variants.{Found, Bad}
+use Rattle.item.specs.declared.layout.Step.{Step}
+use Rattle.item.specs.declared.layout.Step.the-variants.{Size, Not}
+use Rattle.item.specs.declared.layout.Inside.{Inside}
+use Rattle.item.specs.declared.layout.Inside.the-variants.{Fine, Wrong}
+use Rattle.item.specs.Answer.{Answer, good, bad}
+
+-- every element is a byte
+pub data Bytes : List ℕ → Type 0 where
+  no-bytes : Bytes []
+  one-byte : {b : ℕ} {bs : List ℕ} → b < 256 → Bytes bs → Bytes (b ∷ bs)
+
+-- the number of some bytes
+unfoldable pub unbe : List ℕ → ℕ
+unbe [] = 0
+unbe (b ∷ bs) = b * 256 ^ length bs + unbe bs
+
+-- a number in w bytes
+unfoldable pub be : ℕ → ℕ → List ℕ
+be zero n = []
+be (suc w) n = (n / 256 ^ w) ∷ be w (n % 256 ^ w)
+
+-- the first element of a body that is not empty: its size, and what the next one must know of it; or the number of its refusal.
+-- An extension (section 4.6) is a type of 2 bytes and data <0..65535>, and the next one is told one more than its type; a node hash
+-- (section 4.9) is <32..255>, and only 32 is ours.
+unfoldable pub element : Inner → ℕ → List ℕ → Step
+element Opaque last r = Size (length r) 0
+element ExtensionList last r =
+    cond (ltb (length r) 4) (Not 2)
+    (cond (ltb (length r - 4) (unbe (take 2 (drop 2 r)))) (Not 2)
+    (Size (4 + unbe (take 2 (drop 2 r))) (unbe (take 2 r) + 1)))
+element NodeList last r =
+    cond (eqb (getD r 0 0) 32)
+    (cond (ltb (length r) 33) (Not 2) (Size 33 0))
+    (Not 5)
+
+-- go on past an element, or refuse where it starts
+abbrev pub past : Step → ℕ → (ℕ → ℕ → Inside) → Inside
+past (Size n next) at go = go n next
+past (Not x) at go = Wrong x at
+
+-- the elements of a body that starts at a place, at most so many, after an element that said `last`
+unfoldable pub elements : ℕ → Inner → ℕ → List ℕ → ℕ → Inside
+elements zero i last r at = Fine
+elements (suc more) i last r at =
+    cond (eqb (length r) 0) Fine
+    (past (element i last r) at (λ n next. elements more i next (drop n r) (at + n)))
+
+unfoldable pub insideFrom : Inner → ℕ → List ℕ → ℕ → Inside
+insideFrom i last r at = elements (length r) i last r at
+
+-- every element of a body that starts at a place
+unfoldable pub inside : Inner → List ℕ → ℕ → Inside
+inside i r at = insideFrom i 0 r at
+
+-- a body whose elements are fine is found
+abbrev pub whole : Inside → Part → FieldRead
+whole Fine p = Found p
+whole (Wrong x at) p = Bad x at
+
+-- a field that starts at a place, at the front of the bytes r. Of a vector: prefix missing 2, length out of range 5, body cut 2, then its elements
+unfoldable pub field : Field → List ℕ → ℕ → FieldRead
+field (Uint w) r at =
+    cond (ltb (length r) w) (Bad 2 at)
+    (Found (record { start = at; len = w; value = unbe (take w r) }))
+field (Vector w least most i) r at =
+    cond (ltb (length r) w) (Bad 2 at)
+    (cond (ltb (unbe (take w r)) least) (Bad 5 at)
+    (cond (ltb most (unbe (take w r))) (Bad 5 at)
+    (cond (ltb (length r - w) (unbe (take w r))) (Bad 2 at)
+    (whole (inside i (take (unbe (take w r)) (drop w r)) (at + w))
+    (record { start = at + w; len = unbe (take w r); value = unbe (take w r) })))))
+
+-- go on past a field, or refuse
+abbrev pub next : {A : Type 0} → FieldRead → (Part → Answer A) → Answer A
+next (Found p) go = go p
+next (Bad x at) go = bad x at
+
+-- one more part in front
+abbrev pub push : Part → Answer (List Part) → Answer (List Part)
+push p (good ps) = good (p ∷ ps)
+push p (bad x at) = bad x at
+
+-- the fields of a layout from a place on, left to right, and nothing after them
+unfoldable pub read : List Field → List ℕ → ℕ → Answer (List Part)
+read [] s at = cond (ltb at (length s)) (bad 3 at) (good [])
+read (f ∷ fs) s at = next (field f (drop at s) at) (λ p. push p (read fs s (p .start + p .len)))
+
+-- the bytes where a part lies
+abbrev pub cut : List ℕ → Part → List ℕ
+cut s p = take (p .len) (drop (p .start) s)

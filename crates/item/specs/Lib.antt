@@ -1,0 +1,8 @@
+pub mod Answer
+pub mod Layout
+pub mod Write
+pub mod Table
+pub mod Item
+pub mod Newer
+pub mod Claims
+pub mod Steps

@@ -1,0 +1,11 @@
+pub mod Splitting
+pub mod Rfc
+pub mod Counting
+pub mod Table
+pub mod Joining
+pub mod Yielding
+pub mod Parting
+pub mod Completing
+pub mod Answering
+pub mod Accepting
+pub mod Building

@@ -1,0 +1,116 @@
+-- The proof of the cycle of calls {path_into}: one law for each side of the split. The measure is the count of leaves. Assumes nothing.
+use Prim.Native.Nat.{ℕ, _<_}
+use native.Mathlib.Omega.{arith}
+use denote.Ref.{now}
+use Rattle.hash.specs.Digest.{sha256}
+use Rattle.hash.proofs.Promises.{sha256-length}
+use Rattle.tree.proofs.Parting.{path-single, path-grows-first, path-grows-rest, over-none, over-more}
+use borrow.Fn.Kinds.{In}
+use borrow.Fn.PlainCycle.{Measures, is, falls, and}
+use Rattle.tree.proofs.parts.path_into.Reads as path-into
+use Rattle.tree.proofs.parts.path_into.Kinds as path-into-kinds
+use Rattle.tree.proofs.parts.+path_into.Lts-path_into as path-into-lts
+use Rattle.tree.proofs.parts.put_root.Reads as put-root-reads
+use Rattle.tree.proofs.split.cut.Reads as cut-reads
+use Rattle.tree.proofs.parts.+path_into.{statement}
+use Rattle.tree.proofs.parts.+path_into.Tie.{close}
+
+abbrev μ-path-into : Measures 2 path-into-kinds.ps ℕ
+μ-path-into κs a = a .1 .1 .0
+
+abbrev path-into-at : ℕ → In 2 path-into-kinds.ps
+path-into-at t = and 2 path-into-kinds.ps (is 2 path-into-kinds.ps μ-path-into t) path-into.Pre
+
+abbrev path-into-below : ℕ → In 2 path-into-kinds.ps
+path-into-below t =
+    and 2 path-into-kinds.ps (falls 2 path-into-kinds.ps _<_ μ-path-into t) path-into.Pre
+
+abbrev calls : ℕ → path-into-lts.Claims
+calls t = (cut-reads.Asked, cut-reads.Learnt, path-into-below t, path-into.Post, put-root-reads.Asked, put-root-reads.Learnt)
+
+path-into-returns : (t : ℕ) → path-into-lts.Need-returns (calls t) (path-into-at t) path-into.Post
+path-into-returns t c =
+    let a = c .before .before .before .args in
+    over-none _ (now (a .out)) (path-single sha256 (a .from) (a .n) (now (a .leaves)) (a .place) (omega arith))
+
+path-into-cut-requires : (t : ℕ) → path-into-lts.Need-cut-requires (calls t) (path-into-at t) path-into.Post
+path-into-cut-requires t c κs = omega arith
+
+path-into-path-into-requires : (t : ℕ) → path-into-lts.Need-path-into-requires (calls t) (path-into-at t) path-into.Post
+path-into-path-into-requires t c κs =
+    let a = c .before .before .before .before .before .before .args in
+    let g = path-grows-first sha256 sha256-length (a .from) (a .n) (now (a .leaves)) (omega arith) (c .before .before .cut .result) (omega arith) (c .before .before .cut .ensures .0) (a .place) (c .before .if2 .taken) in
+    (omega arith, (omega arith, omega arith, omega arith))
+
+path-into-add-put-root : (t : ℕ) → path-into-lts.Need-add-put-root (calls t) (path-into-at t) path-into.Post
+path-into-add-put-root t c = omega arith
+
+path-into-sub-put-root : (t : ℕ) → path-into-lts.Need-sub-put-root (calls t) (path-into-at t) path-into.Post
+path-into-sub-put-root t c = omega arith
+
+path-into-put-root-requires : (t : ℕ) → path-into-lts.Need-put-root-requires (calls t) (path-into-at t) path-into.Post
+path-into-put-root-requires t c κs =
+    let a = c .before .before .before .before .before .before .before .before .before .before .args in
+    let g = path-grows-first sha256 sha256-length (a .from) (a .n) (now (a .leaves)) (omega arith) (c .before .before .before .before .before .before .cut .result) (omega arith) (c .before .before .before .before .before .before .cut .ensures .0) (a .place) (c .before .before .before .before .before .if2 .taken) in
+    let call = c .before .before .before .path-into in
+    (omega arith, omega arith, omega (arith, call .ensures .0, call .kept .1 .1 .1 .1 .0))
+
+path-into-same-length : (t : ℕ) → path-into-lts.Need-same-length (calls t) (path-into-at t) path-into.Post
+path-into-same-length t c = omega arith
+
+path-into-returns-2 : (t : ℕ) → path-into-lts.Need-returns-2 (calls t) (path-into-at t) path-into.Post
+path-into-returns-2 t c =
+    let a = c .before .before .before .before .before .before .before .before .before .before .before .before .before .args in
+    let g = path-grows-first sha256 sha256-length (a .from) (a .n) (now (a .leaves)) (omega arith) (c .before .before .before .before .before .before .before .before .before .cut .result) (omega arith) (c .before .before .before .before .before .before .before .before .before .cut .ensures .0) (a .place) (c .before .before .before .before .before .before .before .before .if2 .taken) in
+    let call = c .before .before .before .before .before .before .path-into .ensures in
+    let put = c .before .before .put-root .ensures in
+    over-more (now (a .out)) g (call .0) (call .1) (put .0) (put .1)
+
+path-into-add-path-into : (t : ℕ) → path-into-lts.Need-add-path-into (calls t) (path-into-at t) path-into.Post
+path-into-add-path-into t c = omega arith
+
+path-into-sub-path-into : (t : ℕ) → path-into-lts.Need-sub-path-into (calls t) (path-into-at t) path-into.Post
+path-into-sub-path-into t c = omega arith
+
+path-into-path-into-requires-2 : (t : ℕ) → path-into-lts.Need-path-into-requires-2 (calls t) (path-into-at t) path-into.Post
+path-into-path-into-requires-2 t c κs =
+    let a = c .before .before .before .before .before .before .args in
+    let g = path-grows-rest sha256 sha256-length (a .from) (a .n) (now (a .leaves)) (omega arith) (c .before .before .cut .result) (omega arith) (c .before .before .cut .ensures .0) (a .place) (c .before .if2 .left) in
+    (omega arith, (omega arith, omega arith, omega arith))
+
+path-into-put-root-requires-2 : (t : ℕ) → path-into-lts.Need-put-root-requires-2 (calls t) (path-into-at t) path-into.Post
+path-into-put-root-requires-2 t c κs =
+    let a = c .before .before .before .before .before .before .before .before .before .before .args in
+    let g = path-grows-rest sha256 sha256-length (a .from) (a .n) (now (a .leaves)) (omega arith) (c .before .before .before .before .before .before .cut .result) (omega arith) (c .before .before .before .before .before .before .cut .ensures .0) (a .place) (c .before .before .before .before .before .if2 .left) in
+    let call = c .before .before .before .path-into2 in
+    (omega arith, omega arith, omega (arith, call .ensures .0, call .kept .1 .1 .1 .1 .0))
+
+path-into-same-length-2 : (t : ℕ) → path-into-lts.Need-same-length-2 (calls t) (path-into-at t) path-into.Post
+path-into-same-length-2 t c = omega arith
+
+path-into-returns-3 : (t : ℕ) → path-into-lts.Need-returns-3 (calls t) (path-into-at t) path-into.Post
+path-into-returns-3 t c =
+    let a = c .before .before .before .before .before .before .before .before .before .before .before .before .before .args in
+    let g = path-grows-rest sha256 sha256-length (a .from) (a .n) (now (a .leaves)) (omega arith) (c .before .before .before .before .before .before .before .before .before .cut .result) (omega arith) (c .before .before .before .before .before .before .before .before .before .cut .ensures .0) (a .place) (c .before .before .before .before .before .before .before .before .if2 .left) in
+    let call = c .before .before .before .before .before .before .path-into2 .ensures in
+    let put = c .before .before .put-root2 .ensures in
+    over-more (now (a .out)) g (call .0) (call .1) (put .0) (put .1)
+
+pub +path-into-spec : {M : Type 1} → statement M
++path-into-spec = close μ-path-into λ t. path-into-lts.spec (calls t)
+    (path-into-at t)
+    path-into.Post
+    (path-into-returns t)
+    (path-into-cut-requires t)
+    (path-into-path-into-requires t)
+    (path-into-add-put-root t)
+    (path-into-sub-put-root t)
+    (path-into-put-root-requires t)
+    (path-into-same-length t)
+    (path-into-returns-2 t)
+    (path-into-add-path-into t)
+    (path-into-sub-path-into t)
+    (path-into-path-into-requires-2 t)
+    (path-into-put-root-requires-2 t)
+    (path-into-same-length-2 t)
+    (path-into-returns-3 t)

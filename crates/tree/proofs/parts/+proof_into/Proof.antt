@@ -1,0 +1,143 @@
+-- The proof of the cycle of calls {proof_into}: one law for each side of the split. The measure is the count of leaves. Assumes nothing.
+use mathlib.Core.Path.{refl}
+use mathlib.Core.List.{[]}
+use Prim.Native.Nat.{ℕ, _<_}
+use native.Mathlib.Omega.{arith}
+use denote.Ref.{now}
+use Rattle.hash.specs.Digest.{sha256}
+use Rattle.hash.proofs.Promises.{sha256-length}
+use Rattle.tree.proofs.Parting.{sub-known, sub-grows-all, sub-grows-first, sub-grows-rest, over-none, over-more}
+use borrow.Fn.Kinds.{In}
+use borrow.Fn.PlainCycle.{Measures, is, falls, and}
+use Rattle.tree.proofs.parts.proof_into.Reads as proof-into
+use Rattle.tree.proofs.parts.proof_into.Kinds as proof-into-kinds
+use Rattle.tree.proofs.parts.+proof_into.Lts-proof_into as proof-into-lts
+use Rattle.tree.proofs.parts.put_root.Reads as put-root-reads
+use Rattle.tree.proofs.split.cut.Reads as cut-reads
+use Rattle.tree.proofs.parts.+proof_into.{statement}
+use Rattle.tree.proofs.parts.+proof_into.Tie.{close}
+
+abbrev μ-proof-into : Measures 2 proof-into-kinds.ps ℕ
+μ-proof-into κs a = a .1 .1 .0
+
+abbrev proof-into-at : ℕ → In 2 proof-into-kinds.ps
+proof-into-at t =
+    and 2 proof-into-kinds.ps (is 2 proof-into-kinds.ps μ-proof-into t) proof-into.Pre
+
+abbrev proof-into-below : ℕ → In 2 proof-into-kinds.ps
+proof-into-below t =
+    and 2 proof-into-kinds.ps (falls 2 proof-into-kinds.ps _<_ μ-proof-into t) proof-into.Pre
+
+abbrev calls : ℕ → proof-into-lts.Claims
+calls t = (put-root-reads.Asked, put-root-reads.Learnt, cut-reads.Asked, cut-reads.Learnt, proof-into-below t, proof-into.Post)
+
+proof-into-returns : (t : ℕ) → proof-into-lts.Need-returns (calls t) (proof-into-at t) proof-into.Post
+proof-into-returns t c =
+    let a = c .before .before .before .before .args in
+    over-none _ (now (a .out)) (sub-known sha256 (a .from) (a .n) (now (a .leaves)) (a .m) (a .known) (omega arith) (omega arith) (c .if2 .taken))
+
+proof-into-put-root-requires : (t : ℕ) → proof-into-lts.Need-put-root-requires (calls t) (proof-into-at t) proof-into.Post
+proof-into-put-root-requires t c κs =
+    let a = c .before .before .before .before .before .args in
+    let g = sub-grows-all sha256 sha256-length (a .from) (a .n) (now (a .leaves)) (omega arith) (a .m) (a .known) (omega arith) (omega arith) (c .before .if2 .left) in
+    (omega arith, omega arith, omega arith)
+
+proof-into-same-length : (t : ℕ) → proof-into-lts.Need-same-length (calls t) (proof-into-at t) proof-into.Post
+proof-into-same-length t c = omega arith
+
+proof-into-returns-2 : (t : ℕ) → proof-into-lts.Need-returns-2 (calls t) (proof-into-at t) proof-into.Post
+proof-into-returns-2 t c =
+    let a = c .before .before .before .before .before .before .before .before .args in
+    let g = sub-grows-all sha256 sha256-length (a .from) (a .n) (now (a .leaves)) (omega arith) (a .m) (a .known) (omega arith) (omega arith) (c .before .before .before .before .if2 .left) in
+    let none = over-none [] (now (a .out)) refl in
+    let put = c .before .before .put-root .ensures in
+    over-more (now (a .out)) g (none .0) (none .1) (put .0) (put .1)
+
+proof-into-cut-requires : (t : ℕ) → proof-into-lts.Need-cut-requires (calls t) (proof-into-at t) proof-into.Post
+proof-into-cut-requires t c κs = omega arith
+
+proof-into-proof-into-requires : (t : ℕ) → proof-into-lts.Need-proof-into-requires (calls t) (proof-into-at t) proof-into.Post
+proof-into-proof-into-requires t c κs =
+    let a = c .before .before .before .before .before .before .args in
+    let g = sub-grows-first sha256 sha256-length (a .from) (a .n) (now (a .leaves)) (omega arith) (a .m) (a .known) (omega arith) (c .before .before .cut .result) (omega arith) (c .before .before .cut .ensures .0) (c .before .if3 .taken) in
+    (omega arith, (omega arith, omega arith, omega arith, omega arith))
+
+proof-into-add-put-root : (t : ℕ) → proof-into-lts.Need-add-put-root (calls t) (proof-into-at t) proof-into.Post
+proof-into-add-put-root t c = omega arith
+
+proof-into-sub-put-root : (t : ℕ) → proof-into-lts.Need-sub-put-root (calls t) (proof-into-at t) proof-into.Post
+proof-into-sub-put-root t c = omega arith
+
+proof-into-put-root-requires-2 : (t : ℕ) → proof-into-lts.Need-put-root-requires-2 (calls t) (proof-into-at t) proof-into.Post
+proof-into-put-root-requires-2 t c κs =
+    let a = c .before .before .before .before .before .before .before .before .before .before .args in
+    let g = sub-grows-first sha256 sha256-length (a .from) (a .n) (now (a .leaves)) (omega arith) (a .m) (a .known) (omega arith) (c .before .before .before .before .before .before .cut .result) (omega arith) (c .before .before .before .before .before .before .cut .ensures .0) (c .before .before .before .before .before .if3 .taken) in
+    let call = c .before .before .before .proof-into in
+    (omega arith, omega arith, omega (arith, call .ensures .0, call .kept .1 .1 .1 .1 .1 .0))
+
+proof-into-same-length-2 : (t : ℕ) → proof-into-lts.Need-same-length-2 (calls t) (proof-into-at t) proof-into.Post
+proof-into-same-length-2 t c = omega arith
+
+proof-into-returns-3 : (t : ℕ) → proof-into-lts.Need-returns-3 (calls t) (proof-into-at t) proof-into.Post
+proof-into-returns-3 t c =
+    let a = c .before .before .before .before .before .before .before .before .before .before .before .before .before .args in
+    let g = sub-grows-first sha256 sha256-length (a .from) (a .n) (now (a .leaves)) (omega arith) (a .m) (a .known) (omega arith) (c .before .before .before .before .before .before .before .before .before .cut .result) (omega arith) (c .before .before .before .before .before .before .before .before .before .cut .ensures .0) (c .before .before .before .before .before .before .before .before .if3 .taken) in
+    let call = c .before .before .before .before .before .before .proof-into .ensures in
+    let put = c .before .before .put-root2 .ensures in
+    over-more (now (a .out)) g (call .0) (call .1) (put .0) (put .1)
+
+proof-into-add-proof-into : (t : ℕ) → proof-into-lts.Need-add-proof-into (calls t) (proof-into-at t) proof-into.Post
+proof-into-add-proof-into t c = omega arith
+
+proof-into-sub-proof-into : (t : ℕ) → proof-into-lts.Need-sub-proof-into (calls t) (proof-into-at t) proof-into.Post
+proof-into-sub-proof-into t c = omega arith
+
+proof-into-sub-proof-into-2 : (t : ℕ) → proof-into-lts.Need-sub-proof-into-2 (calls t) (proof-into-at t) proof-into.Post
+proof-into-sub-proof-into-2 t c = omega arith
+
+proof-into-proof-into-requires-2 : (t : ℕ) → proof-into-lts.Need-proof-into-requires-2 (calls t) (proof-into-at t) proof-into.Post
+proof-into-proof-into-requires-2 t c κs =
+    let a = c .before .before .before .before .before .before .args in
+    let g = sub-grows-rest sha256 sha256-length (a .from) (a .n) (now (a .leaves)) (omega arith) (a .m) (a .known) (omega arith) (c .before .before .cut .result) (omega arith) (c .before .before .cut .ensures .0) (c .before .if3 .left) in
+    (omega arith, (omega arith, omega arith, omega arith, omega arith))
+
+proof-into-put-root-requires-3 : (t : ℕ) → proof-into-lts.Need-put-root-requires-3 (calls t) (proof-into-at t) proof-into.Post
+proof-into-put-root-requires-3 t c κs =
+    let a = c .before .before .before .before .before .before .before .before .before .before .args in
+    let g = sub-grows-rest sha256 sha256-length (a .from) (a .n) (now (a .leaves)) (omega arith) (a .m) (a .known) (omega arith) (c .before .before .before .before .before .before .cut .result) (omega arith) (c .before .before .before .before .before .before .cut .ensures .0) (c .before .before .before .before .before .if3 .left) in
+    let call = c .before .before .before .proof-into2 in
+    (omega arith, omega arith, omega (arith, call .ensures .0, call .kept .1 .1 .1 .1 .1 .0))
+
+proof-into-same-length-3 : (t : ℕ) → proof-into-lts.Need-same-length-3 (calls t) (proof-into-at t) proof-into.Post
+proof-into-same-length-3 t c = omega arith
+
+proof-into-returns-4 : (t : ℕ) → proof-into-lts.Need-returns-4 (calls t) (proof-into-at t) proof-into.Post
+proof-into-returns-4 t c =
+    let a = c .before .before .before .before .before .before .before .before .before .before .before .before .before .args in
+    let g = sub-grows-rest sha256 sha256-length (a .from) (a .n) (now (a .leaves)) (omega arith) (a .m) (a .known) (omega arith) (c .before .before .before .before .before .before .before .before .before .cut .result) (omega arith) (c .before .before .before .before .before .before .before .before .before .cut .ensures .0) (c .before .before .before .before .before .before .before .before .if3 .left) in
+    let call = c .before .before .before .before .before .before .proof-into2 .ensures in
+    let put = c .before .before .put-root3 .ensures in
+    over-more (now (a .out)) g (call .0) (call .1) (put .0) (put .1)
+
+pub +proof-into-spec : {M : Type 1} → statement M
++proof-into-spec = close μ-proof-into λ t. proof-into-lts.spec (calls t)
+    (proof-into-at t)
+    proof-into.Post
+    (proof-into-returns t)
+    (proof-into-put-root-requires t)
+    (proof-into-same-length t)
+    (proof-into-returns-2 t)
+    (proof-into-cut-requires t)
+    (proof-into-proof-into-requires t)
+    (proof-into-add-put-root t)
+    (proof-into-sub-put-root t)
+    (proof-into-put-root-requires-2 t)
+    (proof-into-same-length-2 t)
+    (proof-into-returns-3 t)
+    (proof-into-add-proof-into t)
+    (proof-into-sub-proof-into t)
+    (proof-into-sub-proof-into-2 t)
+    (proof-into-proof-into-requires-2 t)
+    (proof-into-put-root-requires-3 t)
+    (proof-into-same-length-3 t)
+    (proof-into-returns-4 t)

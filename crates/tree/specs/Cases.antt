@@ -1,0 +1,54 @@
+-- The starred cases of document 01 as one table with one statement, at any hash and for any seven leaf hashes.
+-- Assumes nothing: these are statements.
+use mathlib.Core.Path.{_≡_}
+use mathlib.Core.List.{List, [], _∷_}
+use Prim.Native.Nat.{ℕ}
+use Rattle.tree.specs.Tree.{node, path, consistency}
+
+-- a row: a path at 7, or a consistency path to 7, and its nodes
+pub data Row : Type 0 where
+  path-at : ℕ → List (List ℕ) → Row
+  consistency-from : ℕ → List (List ℕ) → Row
+
+-- what a row says of the leaf hashes
+abbrev pub Says : (List ℕ → List ℕ) → List (List ℕ) → Row → Type 0
+Says H leaves (path-at m p) = path H m leaves ≡ p
+Says H leaves (consistency-from m p) = consistency H m leaves ≡ p
+
+abbrev pub Every : (Row → Type 0) → List Row → Type 0
+Every P [] = Unit {0}
+Every P (x ∷ t) = P x × Every P t
+
+module _ (H : List ℕ → List ℕ) (a b c d e f j : List ℕ) where
+  abbrev pub leaves : List (List ℕ)
+  leaves = a ∷ b ∷ c ∷ d ∷ e ∷ f ∷ j ∷ []
+
+  -- the nodes by their names in the paper
+  abbrev pub g : List ℕ
+  g = node H a b
+
+  abbrev pub h : List ℕ
+  h = node H c d
+
+  abbrev pub i : List ℕ
+  i = node H e f
+
+  abbrev pub k : List ℕ
+  k = node H g h
+
+  abbrev pub l : List ℕ
+  l = node H i j
+
+  abbrev pub table : List Row
+  table =
+      path-at 0 (b ∷ h ∷ l ∷ []) ∷
+      path-at 3 (c ∷ g ∷ l ∷ []) ∷
+      path-at 4 (f ∷ j ∷ k ∷ []) ∷
+      path-at 6 (i ∷ k ∷ []) ∷
+      consistency-from 3 (c ∷ d ∷ g ∷ l ∷ []) ∷
+      consistency-from 4 (l ∷ []) ∷
+      consistency-from 6 (i ∷ j ∷ k ∷ []) ∷
+      []
+
+abbrev pub Starred : Type 0
+Starred = (H : List ℕ → List ℕ) (a b c d e f j : List ℕ) → Every (Says H (leaves H a b c d e f j)) (table H a b c d e f j)

@@ -1,0 +1,11 @@
+pub mod Limits
+pub mod Split
+pub mod Tree
+pub mod Count
+pub mod Yield
+pub mod Joined
+pub mod Verdict
+pub mod Build
+pub mod Equations
+pub mod Claims
+pub mod Cases

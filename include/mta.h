@@ -1,0 +1,62 @@
+/* The proved functions of the checking tool that a program in C can call. Link with libmta.a.
+ *
+ * A slice is a pointer and then its length; a pointer with length 0 is not read and may be NULL.
+ * Every function takes any bytes and any numbers. It answers MTA_OK, or the number of its first
+ * refusal, in the order in which its comment lists them; a refusal changes no byte. */
+#ifndef MTA_H
+#define MTA_H
+
+#include <stddef.h>
+#include <stdint.h>
+
+#ifdef __cplusplus
+extern "C" {
+#endif
+
+enum {
+    MTA_OK = 0,      /* done, or accepted */
+    MTA_LONG = 1,    /* input over the length limit */
+    MTA_LENGTH = 5,  /* a length out of range */
+    MTA_RANGE = 6,   /* size or place out of range, or first size above second */
+    MTA_COUNT = 7,   /* wrong count of nodes */
+    MTA_ROOT = 8,    /* a root disagrees */
+    MTA_ROOM = 9,    /* a lent buffer is too short, or the schedule is not 64 words */
+    MTA_JOINED = 10  /* joined hashes not a multiple of 32 */
+};
+
+/* Whether a path shows the leaf hash at a place of the tree with this size and root (RFC 9162,
+ * section 2.1.3). The path is its nodes, joined, 32 bytes each.
+ * Refusals: MTA_LENGTH (a hash not of 32 bytes), MTA_JOINED, MTA_RANGE, MTA_COUNT, MTA_ROOT. */
+uint32_t mta_inclusion(const uint8_t *leaf, size_t leaf_len, uint64_t place, uint64_t size,
+                       const uint8_t *root, size_t root_len, const uint8_t *path, size_t path_len);
+
+/* Whether a path shows the tree of the first size and root to be the start of the tree of the
+ * second (RFC 9162, section 2.1.4). Equal sizes take an empty path and equal roots.
+ * Refusals: MTA_LENGTH (a root not of 32 bytes), MTA_JOINED, MTA_RANGE, MTA_COUNT, MTA_ROOT. */
+uint32_t mta_consistency(uint64_t first, uint64_t second, const uint8_t *root1, size_t root1_len,
+                         const uint8_t *root2, size_t root2_len, const uint8_t *path, size_t path_len);
+
+/* SHA-256 of the input into the first 32 bytes of out.
+ * Refusals: MTA_LONG (over 33,554,433 bytes), MTA_ROOM (out under 32 bytes). */
+uint32_t mta_digest(const uint8_t *input, size_t input_len, uint8_t *out, size_t out_len);
+
+/* The leaf hash of an item, SHA-256(0x00 || item), into the first 32 bytes of out.
+ * Refusals: MTA_LONG (over 33,554,432 bytes), MTA_ROOM (out under 32 bytes). */
+uint32_t mta_leaf(const uint8_t *item, size_t item_len, uint8_t *out, size_t out_len);
+
+/* The hash of a node, SHA-256(0x01 || left || right), into the first 32 bytes of out.
+ * Refusals: MTA_LENGTH (a hash not of 32 bytes), MTA_ROOM (out under 32 bytes). */
+uint32_t mta_node(const uint8_t *left, size_t left_len, const uint8_t *right, size_t right_len,
+                  uint8_t *out, size_t out_len);
+
+/* SHA-256's block step on the eight words of a hash value; the block's 64 schedule words are left
+ * in schedule. Refusals: MTA_LENGTH (a block not of 64 bytes), MTA_ROOM (schedule not of 64 words,
+ * or state not of eight). */
+uint32_t mta_step(uint32_t *state, size_t state_len, const uint8_t *block, size_t block_len,
+                  uint32_t *schedule, size_t schedule_len);
+
+#ifdef __cplusplus
+}
+#endif
+
+#endif
