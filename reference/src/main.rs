@@ -1,5 +1,5 @@
 //! Commands:
-//!   cases LAYER DIR        write DIR/stdin and DIR/stdout, the committed files
+//!   cases DIR [LAYER ..]   write DIR/stdin and DIR/stdout, the committed files, of these layers or of all
 //!   run LAYER SEED COUNT   write random requests to standard output
 //!   full LAYER             write the large run's requests to standard output
 //!   answer [LAYER]         read requests from standard input, write the answers
@@ -9,7 +9,7 @@ use std::io::{self, BufRead, BufWriter, Write};
 use std::path::Path;
 use std::process::ExitCode;
 
-const USAGE: &str = "usage: reference cases LAYER DIR | run LAYER SEED COUNT | full LAYER | answer [LAYER]";
+const USAGE: &str = "usage: reference cases DIR [LAYER ..] | run LAYER SEED COUNT | full LAYER | answer [LAYER]";
 
 fn main() -> ExitCode {
     let arguments: Vec<String> = std::env::args().skip(1).collect();
@@ -32,7 +32,11 @@ fn main() -> ExitCode {
 fn run(arguments: &[&str]) -> Option<io::Result<()>> {
     let mut out = BufWriter::new(io::stdout().lock());
     match arguments {
-        ["cases", layer, dir] => Some(write_cases(requests::layer(layer)?, Path::new(dir))),
+        ["cases", dir] => Some(write_cases(LAYERS, Path::new(dir))),
+        ["cases", dir, layers @ ..] => {
+            let layers: Option<Vec<&Layer>> = layers.iter().map(|layer| requests::layer(layer)).collect();
+            Some(write_cases(&layers?, Path::new(dir)))
+        }
         ["run", layer, seed, count] => {
             requests::random_run(requests::layer(layer)?, seed.parse().ok()?, count.parse().ok()?, &mut out);
             Some(out.flush())
@@ -47,11 +51,11 @@ fn run(arguments: &[&str]) -> Option<io::Result<()>> {
     }
 }
 
-fn write_cases(layer: &Layer, dir: &Path) -> io::Result<()> {
+fn write_cases(layers: &[&Layer], dir: &Path) -> io::Result<()> {
     let mut questions = Vec::new();
-    (layer.cases)(&mut Requests::new(&mut questions));
+    layers.iter().for_each(|layer| (layer.cases)(&mut Requests::new(&mut questions)));
     let mut answers = Vec::new();
-    write_answers(&[layer], &mut &questions[..], &mut answers)?;
+    write_answers(layers, &mut &questions[..], &mut answers)?;
     std::fs::create_dir_all(dir)?;
     std::fs::write(dir.join("stdin"), questions)?;
     std::fs::write(dir.join("stdout"), answers)

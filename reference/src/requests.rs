@@ -162,12 +162,11 @@ mod tests {
 
     #[test]
     fn committed_files_stay_small() {
-        for layer in LAYERS {
-            let requests = written(layer.cases);
-            let answers = answers(&[layer], &requests);
-            assert!(requests.len() + answers.len() < 1_000_000, "{}: {} and {}", layer.name, requests.len(), answers.len());
-            assert_eq!(requests, written(layer.cases));
-        }
+        let all = || written(|requests| LAYERS.iter().for_each(|layer| (layer.cases)(requests)));
+        let requests = all();
+        let answers = answers(LAYERS, &requests);
+        assert!(requests.len() + answers.len() < 1_000_000, "{} and {}", requests.len(), answers.len());
+        assert_eq!(requests, all());
     }
 
     #[test]

@@ -103,6 +103,7 @@ fn put_state(out: &mut [u8], at: usize, s: State) -> usize {
     put_word(out, p, s.h)
 }
 
+// The words of a list, and zeros after them.
 fn words_from(s: &[u8]) -> [u32; 256]
     ensures { λ r. ⌜ 256 ≡ length r ⌝ }
 {
@@ -125,6 +126,7 @@ fn put_words(out: &mut [u8], at: usize, w: &[u32]) -> usize {
     p
 }
 
+// Runs a step. The state comes back as it was where it is refused.
 fn put_stepped(s: State, block: &[u8], w: &mut [u32], out: &mut [u8]) -> usize {
     match hash::sha256::step(s, block, w) {
         Stepped::Done(after) => {
@@ -168,10 +170,10 @@ pub(crate) fn answer(
     if names(name, b"node", r, b"hh") {
         return node(r, mem, out);
     }
-    if names(name, b"digest_into", r, b"bl") {
+    if names(name, b"digest_into", r, b"bb") {
         return digest_into(r, mem, lent, out);
     }
-    if names(name, b"leaf_into", r, b"bl") {
+    if names(name, b"leaf_into", r, b"bb") {
         return leaf_into(r, mem, lent, out);
     }
     if names(name, b"step", r, b"hbw") {

@@ -2,10 +2,11 @@
 // docs/REQUESTS.md. Nothing is promised here: the code is proved safe, and what it prints is compared with what an independent program says.
 mod answer;
 mod hashes;
+mod items;
 mod request;
+mod trees;
 
 ghost use Prim.Native.Nat.{_≤_};
-ghost use mathlib.Core.Path.{_≡_};
 ghost use lib.ListN.{length};
 use libc::STDIN_FILENO;
 use libc::STDOUT_FILENO;
@@ -19,6 +20,11 @@ fn text_buffer() -> [u8; 262144] {
 
 fn memory() -> [u8; 1048576] {
     [0; 1048576]
+}
+
+// Two digits for each byte of the memory, and some numbers.
+fn answer_buffer() -> [u8; 2097664] {
+    [0; 2097664]
 }
 
 // Reads more text after the first `have` bytes, and answers how many there are then.
@@ -72,12 +78,21 @@ fn one(line: &[u8], mem: &mut [u8], lent: &mut [u8], out: &mut [u8]) {
 
 // Where the answer ends in out, or 0 where the line is no request.
 fn answered(name: &[u8], r: Request, mem: &[u8], lent: &mut [u8], out: &mut [u8]) -> usize {
-    if r.good {
-        return hashes::answer(name, r, mem, lent, out);
+    if !r.good {
+        return 0;
     }
-    0
+    let hashed = hashes::answer(name, r, mem, lent, out);
+    if hashed > 0 {
+        return hashed;
+    }
+    let built = trees::answer(name, r, mem, lent, out);
+    if built > 0 {
+        return built;
+    }
+    items::answer(name, r, mem, lent, out)
 }
 
+// Reads, answers and moves what is left of the last line to the start, until no whole line comes.
 fn serve(text: &mut [u8], mem: &mut [u8], lent: &mut [u8], out: &mut [u8]) {
     let mut have = 0;
     let mut turns = u64::MAX;
@@ -92,11 +107,12 @@ fn serve(text: &mut [u8], mem: &mut [u8], lent: &mut [u8], out: &mut [u8]) {
     }
 }
 
+// Lends the arrays as slices.
 fn run(
     text: &mut [u8; 262144],
     mem: &mut [u8; 1048576],
-    lent: &mut [u8; 262144],
-    out: &mut [u8; 1048576],
+    lent: &mut [u8; 1048576],
+    out: &mut [u8; 2097664],
 ) {
     serve(text, mem, lent, out);
 }
@@ -104,7 +120,7 @@ fn run(
 fn main() {
     let mut text = text_buffer();
     let mut mem = memory();
-    let mut lent = text_buffer();
-    let mut out = memory();
+    let mut lent = memory();
+    let mut out = answer_buffer();
     run(&mut text, &mut mem, &mut lent, &mut out);
 }

@@ -266,7 +266,7 @@ pub(crate) fn lend<'a>(r: Request, i: usize, mem: &[u8], lent: &'a mut [u8]) -> 
     &mut lent[..n]
 }
 
-// Whether argument i is what a letter says: a number, a number of 16 bits (s), bytes, a hash, 32-bit words or a buffer to lend.
+// Whether argument i is what a letter says: a number, a number of 16 bits (s), bytes, a hash, or up to 256 words (w).
 fn fits(r: Request, i: usize, letter: u8) -> bool {
     if i >= 16 {
         return false;
@@ -292,9 +292,6 @@ fn fits(r: Request, i: usize, letter: u8) -> bool {
             return false;
         }
         return n % 4 == 0;
-    }
-    if letter == b'l' {
-        return n <= 262144;
     }
     letter == b'b'
 }

@@ -1,14 +1,38 @@
-// What programs in C and Rust call: the hashes, on byte slices and numbers. 0 means done, any other answer is a refusal's number.
+// What programs in C and Rust call: both verdicts and the hashes, on numbers and byte slices. 0 means accepted or done, any other answer is a refusal's
+// number.
 ghost use mathlib.Core.Path.{_≡_};
 ghost use mathlib.Core.List.{_++_};
 ghost use Prim.Native.Nat.{_≤_};
 ghost use lib.ListN.{length, drop};
 ghost use Rattle.hash.specs.Digest.{sha256, leafHash};
 ghost use Rattle.hash.specs.Answers.{mostInput, mostItem, intoNumber, intoBytes};
+ghost use Rattle.tree.specs.Verdict.{inclusionVerdict, consistencyVerdict};
 ghost use Rattle.mta.specs.Slices.{nodeNumber, nodeBytes, wordsOf, wordsNumber, wordsAfter, scheduleAfter};
 use hash::Digest;
 use hash::State;
 use hash::Stepped;
+
+// The inclusion verdict (RFC 9162, section 2.1.3).
+#[no_mangle]
+pub extern "C" fn mta_inclusion(leaf: &[u8], place: u64, size: u64, root: &[u8], path: &[u8]) -> u32
+    ensures { λ r. ⌜ r ≡ inclusionVerdict sha256 (now (leaf .entry)) place size (now (root .entry)) (now (path .entry)) ⌝ }
+{
+    tree::verdict::inclusion(leaf, place, size, root, path)
+}
+
+// The consistency verdict (RFC 9162, section 2.1.4).
+#[no_mangle]
+pub extern "C" fn mta_consistency(
+    first: u64,
+    second: u64,
+    old: &[u8],
+    new: &[u8],
+    path: &[u8],
+) -> u32
+    ensures { λ r. ⌜ r ≡ consistencyVerdict sha256 first second (now (old .entry)) (now (new .entry)) (now (path .entry)) ⌝ }
+{
+    tree::verdict::consistency(first, second, old, new, path)
+}
 
 // The digest of the input into the first 32 bytes of out.
 #[no_mangle]

@@ -52,13 +52,7 @@ pub fn inclusion(leaf: &[u8], place: u64, size: u64, root: &[u8], path: &[u8]) -
 
 // Whether a path shows the tree of the first size and root to be the start of the tree of the second.
 
-pub fn consistency(
-    first: u64,
-    second: u64,
-    old: &[u8],
-    new: &[u8],
-    path: &[u8],
-) -> u32
+pub fn consistency(first: u64, second: u64, old: &[u8], new: &[u8], path: &[u8]) -> u32
     ensures { λ r. ⌜ r ≡ consistencyVerdict sha256 first second (now (old .entry)) (now (new .entry)) (now (path .entry)) ⌝ }
 {
     if old.len() != 32 {

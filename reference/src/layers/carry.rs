@@ -221,18 +221,18 @@ fn cases(requests: &mut Requests) {
     }
 
     // Every place and first size of small lists, and more of some.
-    for size in 1..=8 {
+    for size in [1, 2, 3, 5, 7] {
         let list = List::random(size, random);
         for first in 1..=size as u64 {
             for place in 0..first {
                 let one = Carry::of_list(&list, place, first);
                 one.ask(requests);
-                if size == 7 && (first == 3 || first == 7 || place == 5) {
+                if size == 7 && (first == 3 && place == 2 || first == 6 && place == 5) {
                     one.damaged(random).iter().for_each(|other| other.ask(requests));
                 }
             }
         }
-        for place in 0..size as u64 {
+        for place in (0..size as u64).step_by(2) {
             ask_compared(requests, &list.inclusion(place), random);
         }
     }

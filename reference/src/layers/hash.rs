@@ -95,19 +95,18 @@ fn cases(requests: &mut Requests) {
         requests.ask("digest_into", &[input, repeated(32, 0)]);
     }
 
-    // Every length from 0 to 300.
-    for count in 0..=300 {
+    // Every length up to two blocks.
+    for count in 0..=130 {
         for entry in BY_VALUE {
             requests.ask(entry, &[bytes(&random.bytes(count))]);
         }
         for entry in INTO {
-            let lent = random.byte();
-            requests.ask(entry, &[bytes(&random.bytes(count)), repeated(32, lent)]);
+            requests.ask(entry, &[repeated(count, random.byte()), repeated(32, random.byte())]);
         }
     }
 
-    // Lengths around every multiple of 64, and where the padding takes one more block.
-    for count in edges().filter(|count| *count > 300) {
+    // Lengths around multiples of 64, and where the padding takes one more block.
+    for count in edges().filter(|count| (131..=600).contains(count) || *count > 4_000) {
         for entry in BY_VALUE {
             requests.ask(entry, &[repeated(count, random.byte())]);
         }
@@ -117,9 +116,9 @@ fn cases(requests: &mut Requests) {
     }
 
     // Lent buffers: too short, of 32 bytes, and longer, where the rest stays.
-    for lent in (0..=72).chain([96, 127, 128, 300]) {
+    for lent in [0, 1, 15, 16, 30, 31, 32, 33, 34, 63, 64, 65, 128, 300] {
         for entry in INTO {
-            let count = random.below(130) as usize;
+            let count = random.below(70) as usize;
             requests.ask(entry, &[bytes(&random.bytes(count)), bytes(&random.bytes(lent))]);
         }
     }
@@ -138,7 +137,7 @@ fn cases(requests: &mut Requests) {
     for (left, right) in [(0, 0), (0, 255), (255, 0), (255, 255), (1, 1), (0x80, 1)] {
         requests.ask("node", &[repeated(32, left), repeated(32, right)]);
     }
-    for _ in 0..40 {
+    for _ in 0..10 {
         let (left, right) = (random.hash(), random.hash());
         requests.ask("node", &[bytes(&left), bytes(&right)]);
         requests.ask("node", &[bytes(&right), bytes(&left)]);
@@ -154,14 +153,13 @@ fn cases(requests: &mut Requests) {
         requests.ask("step", &[initial.clone(), repeated(64, byte), repeated(256, !byte)]);
         requests.ask("step", &[repeated(32, byte), repeated(64, byte), repeated(256, byte)]);
     }
-    for _ in 0..60 {
+    for _ in 0..8 {
         let state = bytes(&random.hash());
         requests.ask("step", &[state, bytes(&random.bytes(64)), bytes(&random.bytes(256))]);
     }
-    for block in [0, 1, 32, 63, 64, 65, 127, 128] {
-        for schedule in [0, 1, 16, 63, 64, 65, 128] {
-            let state = bytes(&random.hash());
-            requests.ask("step", &[state, bytes(&random.bytes(block)), bytes(&random.bytes(4 * schedule))]);
+    for block in [0, 1, 63, 64, 65, 128] {
+        for schedule in [0, 1, 63, 64, 65] {
+            requests.ask("step", &[bytes(&random.hash()), repeated(block, 1), repeated(4 * schedule, 2)]);
         }
     }
 
@@ -215,10 +213,10 @@ fn edges() -> impl Iterator<Item = usize> {
     (0..=4096 - 64).step_by(64).flat_map(near)
 }
 
-/// The long lengths again, with random bytes.
+/// Every length up to 300 and the long ones, with random bytes.
 fn full(requests: &mut Requests) {
     let random = &mut Random::new(1805);
-    for count in edges() {
+    for count in (0..=300).chain(edges()) {
         for entry in BY_VALUE {
             requests.ask(entry, &[bytes(&random.bytes(count))]);
         }

@@ -16,6 +16,8 @@ pub const LAYER: Layer = Layer {
     full,
 };
 
+/// One of each layout.
+const LAYOUTS: [u16; 5] = [0x0101, 0x0103, 0x0104, 0x0105, 0xf001];
 const KINDS: [u16; 8] = [0x0100, 0x0101, 0x0102, 0x0103, 0x0104, 0x0105, 0x0106, 0xf001];
 
 // Answers.
@@ -348,8 +350,8 @@ fn without_others(kind: u16, fields: &Fields) -> Fields {
     f
 }
 
-fn write_cases(requests: &mut Requests, random: &mut Random) {
-    for kind in KINDS {
+fn write_cases(requests: &mut Requests, kinds: &[u16], random: &mut Random) {
+    for &kind in kinds {
         for fields in [smallest(kind as u8), middle(random)] {
             let fields = without_others(kind, &fields);
             let length = encode(kind, &fields).unwrap().len();
@@ -365,7 +367,7 @@ fn write_cases(requests: &mut Requests, random: &mut Random) {
             requests.ask("write", &write_words(kind, &bad, repeated(lent, 0xdd)));
         }
         // Two bad fields: the first of the layout is the one refused.
-        for _ in 0..6 {
+        for _ in 0..3 {
             let mut bad = fields.clone();
             let mut names = vectors_of(kind).to_vec();
             while names.len() > 2 {
@@ -379,7 +381,7 @@ fn write_cases(requests: &mut Requests, random: &mut Random) {
         }
     }
     // Numbers at their ends.
-    for value in [0, 1, 255, 256, u32::MAX as u64, 1 << 32, 1 << 63, u64::MAX] {
+    for value in [0, 255, 256, 1 << 32, u64::MAX] {
         for kind in KINDS {
             let mut f = smallest(1);
             f.timestamp = value;
@@ -412,9 +414,8 @@ fn newer_cases(requests: &mut Requests, random: &mut Random) {
         let fields = Fields { size, timestamp, log_id: log_id.to_vec(), ..middle(random) };
         encode(0x0104, &fields).unwrap()
     };
-    let numbers = [0, 1, 2, 255, 256, 1 << 32, u64::MAX];
-    for size in numbers {
-        for timestamp in numbers {
+    for size in [0, 255, 256, 257, u64::MAX] {
+        for timestamp in [0, 254, 255, 256, u64::MAX] {
             let one = head(256, 255, b"id", random);
             let two = head(size, timestamp, b"id", random);
             requests.ask("newer", &[bytes(&one), bytes(&two)]);
@@ -457,7 +458,6 @@ fn cases(requests: &mut Requests) {
     papers_cases(requests);
     for kind in KINDS {
         whole_and_damaged(requests, &encode(kind, &smallest(kind as u8)).unwrap(), random);
-        whole_and_damaged(requests, &encode(kind, &middle(random)).unwrap(), random);
         // The type's two bytes, changed.
         let input = encode(kind, &smallest(9)).unwrap();
         for at in 0..2 {
@@ -465,6 +465,9 @@ fn cases(requests: &mut Requests) {
                 ask_read(requests, &with_byte(&input, at, byte));
             }
         }
+    }
+    for kind in LAYOUTS {
+        whole_and_damaged(requests, &encode(kind, &middle(random)).unwrap(), random);
     }
     // Longest log id, and one more.
     for kind in [0x0102, 0x0104, 0x0105, 0x0106] {
@@ -478,7 +481,7 @@ fn cases(requests: &mut Requests) {
             ask_read(requests, &vec![byte; count]);
         }
     }
-    write_cases(requests, random);
+    write_cases(requests, &LAYOUTS, random);
     newer_cases(requests, random);
 
     lines_that_are_no_request(requests, "read");
@@ -506,6 +509,7 @@ fn cases(requests: &mut Requests) {
 /// Longest fields, every byte of many items changed, every beginning of more.
 fn full(requests: &mut Requests) {
     let random = &mut Random::new(413);
+    write_cases(requests, &KINDS, random);
     for kind in KINDS {
         for _ in 0..4 {
             whole_and_damaged(requests, &encode(kind, &random_fields(random)).unwrap(), random);
