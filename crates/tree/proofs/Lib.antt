@@ -9,3 +9,4 @@ pub mod Completing
 pub mod Answering
 pub mod Accepting
 pub mod Building
+pub mod OfSha256

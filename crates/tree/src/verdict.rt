@@ -17,8 +17,7 @@ ghost use Rattle.hash.specs.Digest.{sha256};
 ghost use Rattle.tree.specs.Verdict.{inclusionVerdict, consistencyVerdict};
 
 // Whether a path shows the leaf hash at a place of a tree with this size and root.
-
-pub fn inclusion(leaf: &[u8], place: u64, size: u64, root: &[u8], path: &[u8]) -> u32
+pub fn inclusion_verdict(leaf: &[u8], place: u64, size: u64, root: &[u8], path: &[u8]) -> u32
     ensures { λ r. ⌜ r ≡ inclusionVerdict sha256 (now (leaf .entry)) place size (now (root .entry)) (now (path .entry)) ⌝ }
 {
     if leaf.len() != 32 {
@@ -51,8 +50,7 @@ pub fn inclusion(leaf: &[u8], place: u64, size: u64, root: &[u8], path: &[u8]) -
 }
 
 // Whether a path shows the tree of the first size and root to be the start of the tree of the second.
-
-pub fn consistency(first: u64, second: u64, old: &[u8], new: &[u8], path: &[u8]) -> u32
+pub fn consistency_verdict(first: u64, second: u64, old: &[u8], new: &[u8], path: &[u8]) -> u32
     ensures { λ r. ⌜ r ≡ consistencyVerdict sha256 first second (now (old .entry)) (now (new .entry)) (now (path .entry)) ⌝ }
 {
     if old.len() != 32 {

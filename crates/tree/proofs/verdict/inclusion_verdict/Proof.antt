@@ -1,4 +1,4 @@
--- `tree::verdict::inclusion` meets its contract: one law for each return. Assumes nothing.
+-- `tree::verdict::inclusion_verdict` meets its contract: one law for each return. Assumes nothing.
 use mathlib.Core.Path.{_≡_, sym, ap, ap₂, _∙_}
 use mathlib.Core.List.{List}
 use Prim.Native.Nat.{ℕ, _/_}
@@ -12,8 +12,8 @@ use Rattle.tree.specs.Joined.{firstNodes, nodes, nodeAt, same}
 use Rattle.tree.proofs.Joining.{whole-node, nodes-first}
 use Rattle.tree.specs.Verdict.{inclusionVerdict}
 use Rattle.tree.proofs.Answering.{one-5, two-5, path-10, outside-6, count-7, other-8, right-0, place-none, place-many, place-past, place-in}
-use Rattle.tree.proofs.verdict.inclusion.Statement.{statement}
-use Rattle.tree.proofs.verdict.inclusion.Tie as tie
+use Rattle.tree.proofs.verdict.inclusion_verdict.Statement.{statement}
+use Rattle.tree.proofs.verdict.inclusion_verdict.Tie as tie
 
 -- what the code yields is what the definition yields
 yielded : (leaf : List ℕ) (place size : ℕ) (path : List ℕ) {x l : List ℕ} → x ≡ inclusionRoot sha256 place size l (firstNodes (length path / 32) path) → l ≡ nodeAt 0 leaf → length leaf ≡ 32 → x ≡ inclusionRoot sha256 place size leaf (nodes path)
@@ -73,8 +73,8 @@ returns-9 c =
     let y = yielded (now (a .leaf)) (a .place) (a .size) (now (a .path)) (c .before .before .inclusion-root .ensures) (c .before .before .before .node-at .ensures) (omega arith) in
     right-0 _ _ _ _ _ _ (omega arith) (omega arith) (omega arith) (place-in (a .place) (a .size) (omega arith) (omega arith) (omega arith)) (omega arith) (ap (λ (x : List ℕ). same x (now (a .root))) (sym y) ∙ sym (c .before .equals .ensures) ∙ not-false (c .before .equals .result) (c .if8 .left))
 
-pub inclusion-spec : {M : Type 1} → statement M
-inclusion-spec =
+pub inclusion-verdict-spec : {M : Type 1} → statement M
+inclusion-verdict-spec =
     tie.close
     (tie.spec
     returns

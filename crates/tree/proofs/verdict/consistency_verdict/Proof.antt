@@ -1,4 +1,4 @@
--- `tree::verdict::consistency` meets its contract: one law for each return. Assumes nothing.
+-- `tree::verdict::consistency_verdict` meets its contract: one law for each return. Assumes nothing.
 use mathlib.Core.Path.{_≡_, sym, ap, ap₂, _∙_}
 use mathlib.Core.Bool.{true}
 use mathlib.Core.List.{List}
@@ -14,8 +14,8 @@ use Rattle.tree.specs.Joined.{firstNodes, nodes, nodeAt, same}
 use Rattle.tree.proofs.Joining.{whole-node, nodes-first}
 use Rattle.tree.specs.Verdict.{consistencyVerdict}
 use Rattle.tree.proofs.Answering.{one-5, two-5, path-10, outside-6, count-7, other-8, right-0, sizes-none, sizes-many, sizes-past, sizes-in, first-apart, second-apart, both-agree}
-use Rattle.tree.proofs.verdict.consistency.Statement.{statement}
-use Rattle.tree.proofs.verdict.consistency.Tie as tie
+use Rattle.tree.proofs.verdict.consistency_verdict.Statement.{statement}
+use Rattle.tree.proofs.verdict.consistency_verdict.Tie as tie
 
 -- what the code yields is what the definition yields
 module _ (first second : ℕ) (old new path : List ℕ) {x l : List ℕ} where
@@ -94,8 +94,8 @@ returns-10 c =
     let f = c .before .before .before .before .before .before .before .node-at .ensures in
     right-0 _ _ _ _ _ _ (omega arith) (omega arith) (omega arith) (sizes-in (a .first) (a .second) (omega arith) (omega arith) (omega arith)) (omega arith) (both-agree _ _ (old-is (a .first) (a .second) (now (a .old)) (now (a .path)) (e .0) f (omega arith) ∙ sym (c .before .before .before .before .equals .ensures) ∙ not-false (c .before .before .before .before .equals .result) (c .before .before .before .if8 .left)) (new-is (a .first) (a .second) (now (a .old)) (now (a .new)) (now (a .path)) (e .1) f (omega arith) ∙ sym (c .before .equals2 .ensures) ∙ not-false (c .before .equals2 .result) (c .if9 .left)))
 
-pub consistency-spec : {M : Type 1} → statement M
-consistency-spec =
+pub consistency-verdict-spec : {M : Type 1} → statement M
+consistency-verdict-spec =
     tie.close
     (tie.spec
     returns
