@@ -40,7 +40,7 @@ fn consistency_path(r: Request, mem: &[u8], lent: &mut [u8], out: &mut [u8]) -> 
 }
 
 fn inclusion(r: Request, mem: &[u8]) -> u32 {
-    tree::verdict::inclusion(
+    tree::verdict::inclusion_verdict(
         field(r, 0, mem),
         number(r, 1),
         number(r, 2),
@@ -50,7 +50,7 @@ fn inclusion(r: Request, mem: &[u8]) -> u32 {
 }
 
 fn consistency(r: Request, mem: &[u8]) -> u32 {
-    tree::verdict::consistency(
+    tree::verdict::consistency_verdict(
         number(r, 0),
         number(r, 1),
         field(r, 2, mem),

@@ -17,7 +17,7 @@ use hash::Stepped;
 pub extern "C" fn mta_inclusion(leaf: &[u8], place: u64, size: u64, root: &[u8], path: &[u8]) -> u32
     ensures { λ r. ⌜ r ≡ inclusionVerdict sha256 (now (leaf .entry)) place size (now (root .entry)) (now (path .entry)) ⌝ }
 {
-    tree::verdict::inclusion(leaf, place, size, root, path)
+    tree::verdict::inclusion_verdict(leaf, place, size, root, path)
 }
 
 // The consistency verdict (RFC 9162, section 2.1.4).
@@ -31,7 +31,7 @@ pub extern "C" fn mta_consistency(
 ) -> u32
     ensures { λ r. ⌜ r ≡ consistencyVerdict sha256 first second (now (old .entry)) (now (new .entry)) (now (path .entry)) ⌝ }
 {
-    tree::verdict::consistency(first, second, old, new, path)
+    tree::verdict::consistency_verdict(first, second, old, new, path)
 }
 
 // The digest of the input into the first 32 bytes of out.

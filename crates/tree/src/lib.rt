@@ -2,7 +2,6 @@
 // paths from leaf hashes, and the verdicts on inclusion and consistency proofs. specs/ has the definitions over any hash; proofs/ has the
 // laws that crates above may cite.
 pub mod build; // roots and paths, from joined leaf hashes into a lent output
-pub mod host; // both verdicts as a host program in C calls them
 pub mod verdict; // both verdicts
 mod count; // how many nodes a path has
 mod limits; // the largest size
