@@ -16,6 +16,9 @@ extern "C" {
 enum {
     MTA_OK = 0,      /* done, or accepted */
     MTA_LONG = 1,    /* input over the length limit */
+    MTA_CUT = 2,     /* a field is cut short */
+    MTA_EXTRA = 3,   /* bytes after the last field */
+    MTA_TYPE = 4,    /* type not in the list */
     MTA_LENGTH = 5,  /* a length out of range */
     MTA_RANGE = 6,   /* size or place out of range, or first size above second */
     MTA_COUNT = 7,   /* wrong count of nodes */
@@ -35,6 +38,21 @@ uint32_t mta_inclusion(const uint8_t *leaf, size_t leaf_len, uint64_t place, uin
  * Refusals: MTA_LENGTH (a root not of 32 bytes), MTA_JOINED, MTA_RANGE, MTA_COUNT, MTA_ROOT. */
 uint32_t mta_consistency(uint64_t first, uint64_t second, const uint8_t *root1, size_t root1_len,
                          const uint8_t *root2, size_t root2_len, const uint8_t *path, size_t path_len);
+
+/* The root of joined leaf hashes, 32 bytes each, into the first 32 bytes of out; of no leaves, the
+ * hash of the empty string. Refusals: MTA_JOINED (not a multiple of 32, or over 2^32 leaves), MTA_ROOM. */
+uint32_t mta_root(const uint8_t *leaves, size_t leaves_len, uint8_t *out, size_t out_len);
+
+/* Reads an item (RFC 9162, sections 4.5 to 4.12). Its refusal's place is left in *place, else 0.
+ * Refusals: MTA_LONG (over 33,554,432 bytes), then left to right MTA_CUT, MTA_TYPE, MTA_LENGTH, MTA_EXTRA. */
+uint32_t mta_item(const uint8_t *item, size_t item_len, uint64_t *place);
+
+/* Writes a consistency item (type 0x0105) from a log id of 2 to 127 bytes, two sizes and a joined path.
+ * Its length is left in *length, 0 where it is refused.
+ * Refusals: MTA_LENGTH, MTA_JOINED, MTA_ROOM. */
+uint32_t mta_consistency_item(const uint8_t *log, size_t log_len, uint64_t first, uint64_t second,
+                              const uint8_t *path, size_t path_len, uint8_t *out, size_t out_len,
+                              uint64_t *length);
 
 /* SHA-256 of the input into the first 32 bytes of out.
  * Refusals: MTA_LONG (over 33,554,433 bytes), MTA_ROOM (out under 32 bytes). */

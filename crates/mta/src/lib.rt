@@ -7,10 +7,17 @@ ghost use lib.ListN.{length, drop};
 ghost use Rattle.hash.specs.Digest.{sha256, leafHash};
 ghost use Rattle.hash.specs.Answers.{mostInput, mostItem, intoNumber, intoBytes};
 ghost use Rattle.tree.specs.Verdict.{inclusionVerdict, consistencyVerdict};
+ghost use Rattle.tree.specs.Build.{answer, output, rootBuilt};
+ghost use Rattle.item.specs.Item.{reading, readItem, writing};
+ghost use Rattle.mta.specs.Entries.{builtNumber, numberOf, placeOf, lengthOf, sizesOf, consistencyWritten};
 ghost use Rattle.mta.specs.Slices.{nodeNumber, nodeBytes, wordsOf, wordsNumber, wordsAfter, scheduleAfter};
 use hash::Digest;
 use hash::State;
 use hash::Stepped;
+use item::Item;
+use item::Numbers;
+use item::Written;
+use tree::build::Built;
 
 // The inclusion verdict (RFC 9162, section 2.1.3).
 #[no_mangle]
@@ -32,6 +39,167 @@ pub extern "C" fn mta_consistency(
     ensures { λ r. ⌜ r ≡ consistencyVerdict sha256 first second (now (old .entry)) (now (new .entry)) (now (path .entry)) ⌝ }
 {
     tree::verdict::consistency_verdict(first, second, old, new, path)
+}
+
+// The root of joined leaf hashes into the first 32 bytes of out.
+#[no_mangle]
+pub extern "C" fn mta_root(leaves: &[u8], out: &mut [u8]) -> u32
+    ensures { λ r. ⌜ r ≡ builtNumber (answer (rootBuilt sha256 (now (leaves .entry)) (length (now (out .entry))))) ⌝ }
+    ensures { λ _. ⌜ now (out .exit) ≡ output (rootBuilt sha256 (now (leaves .entry)) (length (now (out .entry)))) (now (out .entry)) ⌝ }
+{
+    built(tree::build::root(leaves, out))
+}
+
+fn built(b: Built) -> u32
+    ensures { λ r. ⌜ r ≡ builtNumber b ⌝ }
+{
+    match b {
+        Built::Wrote(_) => 0,
+        Built::Refused(n) => n,
+    }
+}
+
+struct Refusal {
+    number: u32,
+    place: usize,
+}
+
+fn none() -> Refusal
+    ensures { λ r. ⌜ (r .number ≡ 0) × (r .place ≡ 0) ⌝ }
+{
+    Refusal {
+        number: 0,
+        place: 0,
+    }
+}
+
+// What the reader refuses, by its number and place; 0 and 0 of an item that was read.
+fn refused(i: Item) -> Refusal
+    ensures { λ r. ⌜ (r .number ≡ numberOf (reading i)) × (r .place ≡ placeOf (reading i)) ⌝ }
+{
+    match i {
+        Item::Entry {
+            kind: _,
+            timestamp: _,
+            issuer_key_hash: _,
+            certificate: _,
+            extensions: _,
+        } => none(),
+        Item::Receipt {
+            kind: _,
+            log_id: _,
+            timestamp: _,
+            extensions: _,
+            signature: _,
+        } => none(),
+        Item::SignedHead {
+            kind: _,
+            log_id: _,
+            timestamp: _,
+            size: _,
+            root_hash: _,
+            extensions: _,
+            signature: _,
+        } => none(),
+        Item::Consistency {
+            kind: _,
+            log_id: _,
+            size_one: _,
+            size_two: _,
+            path: _,
+        } => none(),
+        Item::Inclusion {
+            kind: _,
+            log_id: _,
+            size: _,
+            place: _,
+            path: _,
+        } => none(),
+        Item::Page {
+            kind: _,
+            timestamp: _,
+            agreement: _,
+            page: _,
+            body: _,
+        } => none(),
+        Item::Refused { number, place } => Refusal { number, place },
+    }
+}
+
+// Reads an item: 0, or the number of the refusal, whose place is left in `place`.
+#[no_mangle]
+pub extern "C" fn mta_item(s: &[u8], place: &mut u64) -> u32
+    ensures { λ r. ⌜ r ≡ numberOf (readItem (now (s .entry))) ⌝ }
+    ensures { λ _. ⌜ now (place .exit) ≡ placeOf (readItem (now (s .entry))) ⌝ }
+{
+    let r = refused(item::read(s));
+    *place = r.place as u64;
+    r.number
+}
+
+struct Size {
+    number: u32,
+    length: usize,
+}
+
+// What the writer answers, as a number and a length.
+fn sized(w: Written) -> Size
+    ensures { λ r. ⌜ (r .number ≡ numberOf (writing w)) × (r .length ≡ lengthOf (writing w)) ⌝ }
+{
+    match w {
+        Written::Length(n) => Size {
+            number: 0,
+            length: n,
+        },
+        Written::Refused { number, place: _ } => Size { number, length: 0 },
+    }
+}
+
+// The numbers of a consistency item.
+fn sizes(first: u64, second: u64) -> Numbers
+    ensures { λ r. ⌜ r ≡ sizesOf first second ⌝ }
+{
+    Numbers {
+        timestamp: 0,
+        size: 0,
+        size_one: first,
+        size_two: second,
+        place: 0,
+        agreement: 0,
+        page: 0,
+    }
+}
+
+// Writes a consistency item (RFC 9162, section 4.11): 0, with the item's length left in `length`, or the number of the refusal.
+#[no_mangle]
+pub extern "C" fn mta_consistency_item<'a>(
+    log: &'a [u8],
+    first: u64,
+    second: u64,
+    path: &'a [u8],
+    out: &mut [u8],
+    length: &mut u64,
+) -> u32
+    ensures { λ r. ⌜ r ≡ numberOf (consistencyWritten (now (log .entry)) first second (now (path .entry)) (now (out .entry)) .answer) ⌝ }
+    ensures { λ _. ⌜ now (out .exit) ≡ consistencyWritten (now (log .entry)) first second (now (path .entry)) (now (out .entry)) .bytes ⌝ }
+    ensures { λ _. ⌜ now (length .exit) ≡ lengthOf (consistencyWritten (now (log .entry)) first second (now (path .entry)) (now (out .entry)) .answer) ⌝ }
+{
+    let none = &log[..0];
+    let w = sized(item::write(
+        0x0105,
+        sizes(first, second),
+        log,
+        none,
+        none,
+        none,
+        none,
+        none,
+        path,
+        none,
+        out,
+    ));
+    *length = w.length as u64;
+    w.number
 }
 
 // The digest of the input into the first 32 bytes of out.
