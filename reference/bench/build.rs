@@ -1,6 +1,5 @@
-//! Builds plain.c with gcc -O3 and links it beside the proved library.
-//! MTA_LIB names the folder of libmta.a; it is target/staticlib of the
-//! repository where it is not set.
+//! Builds plain.c with gcc -O3 and links it. The proved library comes with the
+//! crate `link`.
 
 use std::path::PathBuf;
 use std::process::Command;
@@ -15,14 +14,9 @@ fn main() {
     let _ = std::fs::remove_file(&library);
     run(Command::new("ar").arg("rcs").arg(&library).arg(&object));
 
-    let proved = std::env::var_os("MTA_LIB").map_or(here.join("../../target/staticlib"), PathBuf::from);
     println!("cargo:rustc-link-search=native={}", out.display());
-    println!("cargo:rustc-link-search=native={}", proved.display());
     println!("cargo:rustc-link-lib=static=plain");
-    println!("cargo:rustc-link-lib=static=mta");
     println!("cargo:rerun-if-changed=plain.c");
-    println!("cargo:rerun-if-changed={}", proved.join("libmta.a").display());
-    println!("cargo:rerun-if-env-changed=MTA_LIB");
 }
 
 fn run(command: &mut Command) {

@@ -1,11 +1,12 @@
+-- The laws, one subject a file, each from those above it; crates above cite them. The proofs of the functions are in the folders.
 pub mod Splitting
 pub mod Rfc
 pub mod Counting
 pub mod Table
 pub mod Joining
 pub mod Yielding
-pub mod Parting
 pub mod Completing
+pub mod Parting
 pub mod Answering
 pub mod Accepting
 pub mod Building

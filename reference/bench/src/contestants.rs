@@ -1,5 +1,6 @@
 //! Who is timed: the proved library, the plain algorithm in C and in Rust.
 
+use mta::{mta_digest, mta_leaf, mta_node, mta_step};
 use reference::sha256;
 
 /// The jobs of one contestant. Each writes its answer over its last arguments.
@@ -12,18 +13,6 @@ pub struct Contestant {
 }
 
 extern "C" {
-    fn mta_digest(input: *const u8, length: usize, out: *mut u8, out_length: usize) -> u32;
-    fn mta_leaf(item: *const u8, length: usize, out: *mut u8, out_length: usize) -> u32;
-    fn mta_node(left: *const u8, left_length: usize, right: *const u8, right_length: usize, out: *mut u8, out_length: usize) -> u32;
-    fn mta_step(
-        state: *mut u32,
-        state_length: usize,
-        block: *const u8,
-        block_length: usize,
-        schedule: *mut u32,
-        schedule_length: usize,
-    ) -> u32;
-
     fn plain_digest(input: *const u8, length: usize, out: *mut u8);
     fn plain_leaf(item: *const u8, length: usize, out: *mut u8);
     fn plain_node(left: *const u8, right: *const u8, out: *mut u8);

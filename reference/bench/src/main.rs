@@ -1,9 +1,11 @@
 //! Times the proved hash beside the plain algorithm in C (gcc -O3) and Rust
 //! (release), and OpenSSL: one machine, one run, the contestants in turn.
-//! A ratio is the plain time divided by ours: above 1, ours is faster.
+//! A ratio is the plain time divided by ours: above 1, ours is faster. Then the
+//! tree and the items, each beside one other way.
 
 mod contestants;
 mod openssl;
+mod pairs;
 
 use contestants::{Contestant, OURS, PLAIN_C, PLAIN_RUST};
 use std::hint::black_box;
@@ -210,4 +212,6 @@ fn main() {
         println!();
     }
     others.into_iter().for_each(OtherProcess::end);
+    println!();
+    pairs::print_table();
 }

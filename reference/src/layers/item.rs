@@ -18,7 +18,7 @@ pub const LAYER: Layer = Layer {
 
 /// One of each layout.
 const LAYOUTS: [u16; 5] = [0x0101, 0x0103, 0x0104, 0x0105, 0xf001];
-const KINDS: [u16; 8] = [0x0100, 0x0101, 0x0102, 0x0103, 0x0104, 0x0105, 0x0106, 0xf001];
+pub const KINDS: [u16; 8] = [0x0100, 0x0101, 0x0102, 0x0103, 0x0104, 0x0105, 0x0106, 0xf001];
 
 // Answers.
 
@@ -141,7 +141,7 @@ fn ask_read(requests: &mut Requests, input: &[u8]) {
 }
 
 /// Every field as short as it may be.
-fn smallest(byte: u8) -> Fields {
+pub fn smallest(byte: u8) -> Fields {
     Fields {
         log_id: vec![byte; 2],
         key_hash: vec![byte; 32],
@@ -165,7 +165,7 @@ fn random_extensions(count: u64, longest: u64, random: &mut Random) -> Vec<u8> {
 }
 
 /// Fields of any sort, of a few dozen bytes; all in range.
-fn random_fields(random: &mut Random) -> Fields {
+pub fn random_fields(random: &mut Random) -> Fields {
     fn some(random: &mut Random, least: u64, usual: u64, most: u64) -> Vec<u8> {
         let length = match random.below(12) {
             0 => least,
@@ -262,19 +262,19 @@ fn with_byte(input: &[u8], at: usize, byte: u8) -> Vec<u8> {
 
 /// An item, each of its beginnings, each length byte off by one and at its ends,
 /// and bytes after it.
-fn whole_and_damaged(requests: &mut Requests, input: &[u8], random: &mut Random) {
-    ask_read(requests, input);
-    for cut in 0..input.len() {
-        requests.ask("read", &[bytes(&input[..cut])]);
-    }
+pub fn whole_and_damaged(input: &[u8], random: &mut Random) -> Vec<Vec<u8>> {
+    let mut all = vec![input.to_vec()];
+    all.extend((0..input.len()).map(|cut| input[..cut].to_vec()));
     for at in length_bytes(input) {
-        for byte in [input[at].wrapping_add(1), input[at].wrapping_sub(1), 0, 255] {
-            requests.ask("read", &[bytes(&with_byte(input, at, byte))]);
-        }
+        let changes = [input[at].wrapping_add(1), input[at].wrapping_sub(1), 0, 255];
+        all.extend(changes.map(|byte| with_byte(input, at, byte)));
     }
-    for add in [1, 2, 33] {
-        requests.ask("read", &[bytes(&[input, &random.bytes(add)].concat())]);
-    }
+    all.extend([1, 2, 33].map(|add| [input, &random.bytes(add)].concat()));
+    all
+}
+
+fn ask_whole_and_damaged(requests: &mut Requests, input: &[u8], random: &mut Random) {
+    whole_and_damaged(input, random).iter().for_each(|one| requests.ask("read", &[bytes(one)]));
 }
 
 /// A change of one field.
@@ -457,7 +457,7 @@ fn cases(requests: &mut Requests) {
     let random = &mut Random::new(412);
     papers_cases(requests);
     for kind in KINDS {
-        whole_and_damaged(requests, &encode(kind, &smallest(kind as u8)).unwrap(), random);
+        ask_whole_and_damaged(requests, &encode(kind, &smallest(kind as u8)).unwrap(), random);
         // The type's two bytes, changed.
         let input = encode(kind, &smallest(9)).unwrap();
         for at in 0..2 {
@@ -467,7 +467,7 @@ fn cases(requests: &mut Requests) {
         }
     }
     for kind in LAYOUTS {
-        whole_and_damaged(requests, &encode(kind, &middle(random)).unwrap(), random);
+        ask_whole_and_damaged(requests, &encode(kind, &middle(random)).unwrap(), random);
     }
     // Longest log id, and one more.
     for kind in [0x0102, 0x0104, 0x0105, 0x0106] {
@@ -512,7 +512,7 @@ fn full(requests: &mut Requests) {
     write_cases(requests, &KINDS, random);
     for kind in KINDS {
         for _ in 0..4 {
-            whole_and_damaged(requests, &encode(kind, &random_fields(random)).unwrap(), random);
+            ask_whole_and_damaged(requests, &encode(kind, &random_fields(random)).unwrap(), random);
         }
         for _ in 0..3 {
             let input = encode(kind, &random_fields(random)).unwrap();
@@ -604,15 +604,20 @@ fn damage(input: &mut Vec<u8>, random: &mut Random) {
     }
 }
 
-fn random_read(random: &mut Random) -> Vec<Word> {
+/// An item of any type, mostly damaged, or any bytes.
+pub fn random_item(random: &mut Random) -> Vec<u8> {
     if random.one_in(40) {
         let count = random.below(60) as usize;
-        return vec![bytes(&random.bytes(count))];
+        return random.bytes(count);
     }
     let kind = *random.pick(&KINDS);
     let mut input = encode(kind, &random_fields(random)).unwrap();
     damage(&mut input, random);
-    vec![bytes(&input)]
+    input
+}
+
+fn random_read(random: &mut Random) -> Vec<Word> {
+    vec![bytes(&random_item(random))]
 }
 
 fn random_write(random: &mut Random) -> Vec<Word> {

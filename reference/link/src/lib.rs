@@ -1,0 +1,41 @@
+//! include/mta.h in Rust: the entries of the proved static library.
+
+extern "C" {
+    pub fn mta_inclusion(
+        leaf: *const u8,
+        leaf_len: usize,
+        place: u64,
+        size: u64,
+        root: *const u8,
+        root_len: usize,
+        path: *const u8,
+        path_len: usize,
+    ) -> u32;
+    pub fn mta_consistency(
+        first: u64,
+        second: u64,
+        root1: *const u8,
+        root1_len: usize,
+        root2: *const u8,
+        root2_len: usize,
+        path: *const u8,
+        path_len: usize,
+    ) -> u32;
+    pub fn mta_root(leaves: *const u8, leaves_len: usize, out: *mut u8, out_len: usize) -> u32;
+    pub fn mta_item(item: *const u8, item_len: usize, place: *mut u64) -> u32;
+    pub fn mta_consistency_item(
+        log: *const u8,
+        log_len: usize,
+        first: u64,
+        second: u64,
+        path: *const u8,
+        path_len: usize,
+        out: *mut u8,
+        out_len: usize,
+        length: *mut u64,
+    ) -> u32;
+    pub fn mta_digest(input: *const u8, input_len: usize, out: *mut u8, out_len: usize) -> u32;
+    pub fn mta_leaf(item: *const u8, item_len: usize, out: *mut u8, out_len: usize) -> u32;
+    pub fn mta_node(left: *const u8, left_len: usize, right: *const u8, right_len: usize, out: *mut u8, out_len: usize) -> u32;
+    pub fn mta_step(state: *mut u32, state_len: usize, block: *const u8, block_len: usize, schedule: *mut u32, schedule_len: usize) -> u32;
+}

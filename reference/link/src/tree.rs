@@ -1,0 +1,94 @@
+//! Both verdicts and mta_root.
+
+use crate::compare::{show, Lent, Tally};
+use mta::{mta_consistency, mta_inclusion, mta_root};
+use reference::proofs::{random_consistency, random_inclusion, Proof};
+use reference::random::Random;
+use reference::sha256::digest;
+use reference::tree::{build_root, MOST_LEAVES};
+use std::ffi::{c_int, c_void};
+
+/// The number must be the recursive definition's, and what is accepted that of
+/// RFC 9162's bottom-up algorithms.
+fn verdict(proof: &Proof, tally: &mut Tally, random: &mut Random) {
+    let expected = proof.number();
+    let ([one, two], [first, second], path) = (proof.numbers, &proof.hashes, &proof.path);
+    let [mut a, mut b, mut c] = [first, second, path].map(|bytes| Lent::new(bytes, random));
+    let found = unsafe {
+        if proof.is_inclusion {
+            mta_inclusion(a.pointer(), a.length(), one, two, b.pointer(), b.length(), c.pointer(), c.length())
+        } else {
+            mta_consistency(one, two, a.pointer(), a.length(), b.pointer(), b.length(), c.pointer(), c.length())
+        }
+    };
+    let entry = if proof.is_inclusion { "mta_inclusion" } else { "mta_consistency" };
+    let is_memory_right = a.holds(first) && b.holds(second) && c.holds(path);
+    tally.count(entry, expected, found, is_memory_right, || format!("{:?}", proof.words()));
+}
+
+fn root(leaves: &[u8], out: &[u8], tally: &mut Tally, random: &mut Random) {
+    let mut after = out.to_vec();
+    let expected = build_root(digest, leaves, &mut after).err().unwrap_or(0);
+    let (mut a, mut b) = (Lent::new(leaves, random), Lent::new(out, random));
+    let found = unsafe { mta_root(a.pointer(), a.length(), b.pointer(), b.length()) };
+    tally.count("mta_root", expected, found, a.holds(leaves) && b.holds(&after), || format!("{}, out of {}", show(leaves), out.len()));
+}
+
+extern "C" {
+    fn mmap(at: *mut c_void, length: usize, protection: c_int, flags: c_int, file: c_int, offset: i64) -> *mut c_void;
+    fn munmap(at: *mut c_void, length: usize) -> c_int;
+}
+
+/// Over 2^32 leaves, and lengths near it that are no multiple of 32: addresses
+/// without memory, since no leaf is read.
+fn too_many_leaves(tally: &mut Tally, random: &mut Random) {
+    const MOST: usize = 32 * MOST_LEAVES as usize;
+    const PRIVATE_ANONYMOUS_NO_RESERVE: c_int = 0x02 | 0x20 | 0x4000;
+    let space = unsafe { mmap(std::ptr::null_mut(), MOST + 64, 0, PRIVATE_ANONYMOUS_NO_RESERVE, -1, 0) };
+    assert!(space as isize != -1, "no addresses for 2^32 leaves");
+    for length in [MOST - 1, MOST + 1, MOST + 32, MOST + 64] {
+        for out in [0, 31, 32] {
+            let content = random.bytes(out);
+            let mut lent = Lent::new(&content, random);
+            let found = unsafe { mta_root(space as *const u8, length, lent.pointer(), lent.length()) };
+            tally.count("mta_root", 10, found, lent.holds(&content), || format!("{length} bytes, out of {out}"));
+        }
+    }
+    unsafe { munmap(space, MOST + 64) };
+}
+
+pub fn edges(tally: &mut Tally, random: &mut Random) {
+    for count in 0..=140 {
+        let leaves = random.bytes(32 * count);
+        for out in [32, 33, 100] {
+            root(&leaves, &random.bytes(out), tally, random);
+        }
+        for out in [0, 1, 31] {
+            root(&leaves, &random.bytes(out), tally, random);
+            root(&leaves[1.min(leaves.len())..], &random.bytes(out), tally, random);
+        }
+        for add in [1, 16, 31] {
+            root(&[&leaves[..], &random.bytes(add)].concat(), &random.bytes(40), tally, random);
+        }
+    }
+    for count in [255, 256, 257, 1_000, 1_023, 1_024, 1_025, 4_095, 4_097, 65_535, 65_536, 65_537] {
+        let leaves = random.bytes(32 * count);
+        root(&leaves, &random.bytes(40), tally, random);
+        root(&leaves, &random.bytes(31), tally, random);
+        root(&leaves[..32 * count - 1], &random.bytes(40), tally, random);
+    }
+    too_many_leaves(tally, random);
+}
+
+pub fn some_verdict(tally: &mut Tally, random: &mut Random) {
+    let proof = if random.one_in(2) { random_inclusion(random) } else { random_consistency(random) };
+    verdict(&proof, tally, random);
+}
+
+pub fn some(tally: &mut Tally, random: &mut Random) {
+    let most = *random.pick(&[10, 40, 40, 150]);
+    let leaves = 32 * random.below(most) + if random.one_in(6) { random.below(32) } else { 0 };
+    let out = if random.one_in(6) { random.below(32) } else { random.between(32, 80) };
+    let (leaves, out) = (random.bytes(leaves as usize), random.bytes(out as usize));
+    root(&leaves, &out, tally, random);
+}
