@@ -1,6 +1,7 @@
 // Reads requests from standard input and writes one line an answer, through the public functions of the other crates. The format is described in
 // docs/REQUESTS.md. Nothing is promised here: the code is proved safe, and what it prints is compared with what an independent program says.
 mod answer;
+mod carries;
 mod hashes;
 mod items;
 mod request;
@@ -88,6 +89,10 @@ fn answered(name: &[u8], r: Request, mem: &[u8], lent: &mut [u8], out: &mut [u8]
     let built = trees::answer(name, r, mem, lent, out);
     if built > 0 {
         return built;
+    }
+    let carried = carries::answer(name, r, mem, lent, out);
+    if carried > 0 {
+        return carried;
     }
     items::answer(name, r, mem, lent, out)
 }

@@ -9,8 +9,13 @@ ghost use Rattle.hash.specs.Answers.{mostInput, mostItem, intoNumber, intoBytes
 ghost use Rattle.tree.specs.Verdict.{inclusionVerdict, consistencyVerdict};
 ghost use Rattle.tree.specs.Build.{answer, output, rootBuilt};
 ghost use Rattle.item.specs.Item.{reading, readItem, writing};
+ghost use Rattle.carry.specs.Forward.{carry, pathAfter, pairAfter, answer as carryAnswer};
+ghost use Rattle.carry.specs.Compare.{compare, answer as compareAnswer, pairAfter as comparePair};
+ghost use Rattle.mta.specs.Carries.{carriedNumber, carriedCollision, carriedLength, comparedNumber, comparedCollision};
 ghost use Rattle.mta.specs.Entries.{builtNumber, numberOf, placeOf, lengthOf, sizesOf, consistencyWritten};
 ghost use Rattle.mta.specs.Slices.{nodeNumber, nodeBytes, wordsOf, wordsNumber, wordsAfter, scheduleAfter};
+use carry::compare::Compared;
+use carry::forward::Carried;
 use hash::Digest;
 use hash::State;
 use hash::Stepped;
@@ -39,6 +44,109 @@ pub extern "C" fn mta_consistency(
     ensures { λ r. ⌜ r ≡ consistencyVerdict sha256 first second (now (old .entry)) (now (new .entry)) (now (path .entry)) ⌝ }
 {
     tree::verdict::consistency_verdict(first, second, old, new, path)
+}
+
+struct Told {
+    number: u32,
+    collision: bool,
+    length: usize,
+}
+
+// What a carrying answers, as numbers.
+fn carried(c: Carried) -> Told
+    ensures { λ r. ⌜ (r .number ≡ carriedNumber c) × (r .collision ≡ carriedCollision c) × (r .length ≡ carriedLength c) ⌝ }
+{
+    match c {
+        Carried::Path(n) => Told {
+            number: 0,
+            collision: false,
+            length: n,
+        },
+        Carried::Collision => Told {
+            number: 0,
+            collision: true,
+            length: 0,
+        },
+        Carried::Refused(n) => Told {
+            number: n,
+            collision: false,
+            length: 0,
+        },
+    }
+}
+
+// Carries an inclusion proof at m leaves to n by a consistency proof: 0, with the new path's length and whether a collision was written instead, or the
+// number of the refusal.
+#[no_mangle]
+pub extern "C" fn mta_carry(
+    leaf: &[u8],
+    place: u64,
+    m: u64,
+    n: u64,
+    old: &[u8],
+    new: &[u8],
+    path: &[u8],
+    proof: &[u8],
+    out: &mut [u8],
+    pair: &mut [u8],
+    written: &mut u64,
+    collided: &mut bool,
+) -> u32
+    ensures { λ r. ⌜ r ≡ carriedNumber (carryAnswer (carry sha256 (now (leaf .entry)) place m n (now (old .entry)) (now (new .entry)) (now (path .entry)) (now (proof .entry)) (length (now (out .entry))) (length (now (pair .entry))))) ⌝ }
+    ensures { λ _. ⌜ now (out .exit) ≡ pathAfter (carry sha256 (now (leaf .entry)) place m n (now (old .entry)) (now (new .entry)) (now (path .entry)) (now (proof .entry)) (length (now (out .entry))) (length (now (pair .entry)))) (now (out .entry)) ⌝ }
+    ensures { λ _. ⌜ now (pair .exit) ≡ pairAfter (carry sha256 (now (leaf .entry)) place m n (now (old .entry)) (now (new .entry)) (now (path .entry)) (now (proof .entry)) (length (now (out .entry))) (length (now (pair .entry)))) (now (pair .entry)) ⌝ }
+    ensures { λ _. ⌜ now (written .exit) ≡ carriedLength (carryAnswer (carry sha256 (now (leaf .entry)) place m n (now (old .entry)) (now (new .entry)) (now (path .entry)) (now (proof .entry)) (length (now (out .entry))) (length (now (pair .entry))))) ⌝ }
+    ensures { λ _. ⌜ now (collided .exit) ≡ carriedCollision (carryAnswer (carry sha256 (now (leaf .entry)) place m n (now (old .entry)) (now (new .entry)) (now (path .entry)) (now (proof .entry)) (length (now (out .entry))) (length (now (pair .entry))))) ⌝ }
+{
+    let t = carried(carry::forward::carry(leaf, place, m, n, old, new, path, proof, out, pair));
+    *written = t.length as u64;
+    *collided = t.collision;
+    t.number
+}
+
+// What a comparison answers, as numbers.
+fn compared(c: Compared) -> Told
+    ensures { λ r. ⌜ (r .number ≡ comparedNumber c) × (r .collision ≡ comparedCollision c) ⌝ }
+{
+    match c {
+        Compared::Same => Told {
+            number: 0,
+            collision: false,
+            length: 0,
+        },
+        Compared::Collision => Told {
+            number: 0,
+            collision: true,
+            length: 0,
+        },
+        Compared::Refused(n) => Told {
+            number: n,
+            collision: false,
+            length: 0,
+        },
+    }
+}
+
+// Compares two inclusion proofs for one place, size and root: 0, and whether a collision was written, or the number of the refusal.
+#[no_mangle]
+pub extern "C" fn mta_compare(
+    place: u64,
+    size: u64,
+    root: &[u8],
+    leaf1: &[u8],
+    path1: &[u8],
+    leaf2: &[u8],
+    path2: &[u8],
+    pair: &mut [u8],
+    collided: &mut bool,
+) -> u32
+    ensures { λ r. ⌜ r ≡ comparedNumber (compareAnswer (compare sha256 place size (now (root .entry)) (now (leaf1 .entry)) (now (path1 .entry)) (now (leaf2 .entry)) (now (path2 .entry)) (length (now (pair .entry))))) ⌝ }
+    ensures { λ _. ⌜ now (pair .exit) ≡ comparePair (compare sha256 place size (now (root .entry)) (now (leaf1 .entry)) (now (path1 .entry)) (now (leaf2 .entry)) (now (path2 .entry)) (length (now (pair .entry)))) (now (pair .entry)) ⌝ }
+    ensures { λ _. ⌜ now (collided .exit) ≡ comparedCollision (compareAnswer (compare sha256 place size (now (root .entry)) (now (leaf1 .entry)) (now (path1 .entry)) (now (leaf2 .entry)) (now (path2 .entry)) (length (now (pair .entry))))) ⌝ }
+{
+    let t = compared(carry::compare::compare(place, size, root, leaf1, path1, leaf2, path2, pair));
+    *collided = t.collision;
+    t.number
 }
 
 // The root of joined leaf hashes into the first 32 bytes of out.

@@ -151,6 +151,11 @@ module _ (H : List ℕ → List ℕ) where
       (lt-or-ge k m))
       (eq-or-lt-of-le le))
 
+  pub subproof-complete : (m : ℕ) (l : List (List ℕ)) (b : Bool) (f : List ℕ) → 0 < m → m ≤ length l → (b ≡ true → f ≡ root H (take m l)) →
+      (oldRoot H m (length l) b f (subproof H m l b) ≡ root H (take m l)) × (newRoot H m (length l) b f (subproof H m l b) ≡ root H l)
+  unfolding Yields Both
+  subproof-complete m l b f z h first = both l (omega arith) m b f z h first
+
   pub consistency-complete : (m : ℕ) (l : List (List ℕ)) → 0 < m → m ≤ length l →
       (oldRoot H m (length l) true (root H (take m l)) (consistency H m l) ≡ root H (take m l)) × (newRoot H m (length l) true (root H (take m l)) (consistency H m l) ≡ root H l)
   unfolding Yields Both consistency

@@ -2,7 +2,6 @@
 pub mod Splitting
 pub mod Rfc
 pub mod Counting
-pub mod Table
 pub mod Joining
 pub mod Yielding
 pub mod Completing

@@ -4,7 +4,7 @@
 pub mod build; // roots and paths, from joined leaf hashes into a lent output
 pub mod verdict; // both verdicts
 mod count; // how many nodes a path has
-mod limits; // the largest size
+pub mod limits; // the largest size
 mod nodes; // hashes joined in a buffer, 32 bytes each
 mod parts; // recursions on the two parts of joined leaf hashes
 mod refusal; // the numbers of the refusals

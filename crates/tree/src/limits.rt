@@ -1,7 +1,7 @@
 // The limits of document 01. Nothing else knows them: all other arithmetic holds for every 64-bit size.
 
 // The largest size of a tree.
-pub(crate) const LARGEST_SIZE: u64 = 4294967296;
+pub const LARGEST_SIZE: u64 = 4294967296;
 
 // The most leaf hashes that one lent buffer may join.
 pub(crate) const MOST_LEAVES: u64 = LARGEST_SIZE;

@@ -3,17 +3,25 @@
 use mathlib.Core.Path.{_≡_}
 use mathlib.Core.List.{List, [], _∷_}
 use Prim.Native.Nat.{ℕ}
-use Rattle.tree.specs.Tree.{node, path, consistency}
+use lib.ListN.{take, getD}
+use Rattle.tree.specs.Tree.{node, root, path, consistency}
+use Rattle.carry.specs.Strings.{alike}
+use Rattle.carry.specs.Forward.{conflict, forward}
 
--- a row: a path at 7, or a consistency path to 7, and its nodes
+-- a row: a path at 7; a consistency path to 7; or the path of a place at a first size, and what it becomes at 7, where nothing differs
 pub data Row : Type 0 where
   path-at : ℕ → List (List ℕ) → Row
   consistency-from : ℕ → List (List ℕ) → Row
+  carried-from : ℕ → ℕ → List (List ℕ) → List (List ℕ) → Row
 
 -- what a row says of the leaf hashes
 abbrev pub Says : (List ℕ → List ℕ) → List (List ℕ) → Row → Type 0
 Says H leaves (path-at m p) = path H m leaves ≡ p
 Says H leaves (consistency-from m p) = consistency H m leaves ≡ p
+Says H leaves (carried-from m x p r) =
+    (path H x (take m leaves) ≡ p)
+    × (conflict H m 7 x (getD leaves x []) p (root H (take m leaves)) (consistency H m leaves) ≡ alike)
+    × (forward H m 7 x p (root H (take m leaves)) (consistency H m leaves) ≡ r)
 
 abbrev pub Every : (Row → Type 0) → List Row → Type 0
 Every P [] = Unit {0}
@@ -48,6 +56,9 @@ module _ (H : List ℕ → List ℕ) (a b c d e f j : List ℕ) where
       consistency-from 3 (c ∷ d ∷ g ∷ l ∷ []) ∷
       consistency-from 4 (l ∷ []) ∷
       consistency-from 6 (i ∷ j ∷ k ∷ []) ∷
+      carried-from 3 0 (b ∷ c ∷ []) (b ∷ h ∷ l ∷ []) ∷
+      carried-from 3 2 (g ∷ []) (d ∷ g ∷ l ∷ []) ∷
+      carried-from 6 5 (e ∷ k ∷ []) (e ∷ j ∷ k ∷ []) ∷
       []
 
 abbrev pub Starred : Type 0

@@ -1,0 +1,12 @@
+pub mod Levels
+pub mod Pairing
+pub mod Writing
+pub mod Stepping
+pub mod Walking
+pub mod Sizing
+pub mod Differing
+pub mod Comparing
+pub mod Forwarding
+pub mod Carrying
+pub mod Honest
+pub mod Table

@@ -1,0 +1,122 @@
+-- The proof of the cycle of calls {consistency_roots}: laws of a level for each return. The measure is the size. Assumes nothing.
+use mathlib.Core.Path.{_≡_, _∙_}
+use native.Mathlib.Omega.{arith}
+use denote.Ref.{now}
+use Rattle.hash.specs.Digest.{sha256}
+use Rattle.tree.proofs.Counting.{sub-all, sub-some, sub-low, sub-high}
+use Rattle.tree.proofs.Yielding.{both-known, both-unknown, both-low, both-high}
+use Prim.Native.Nat.{ℕ, _<_}
+use borrow.Fn.Kinds.{In}
+use borrow.Fn.PlainCycle.{Measures, is, falls, and}
+use Rattle.carry.proofs.yields.consistency_roots.Reads as consistency-roots
+use Rattle.carry.proofs.yields.consistency_roots.Kinds as consistency-roots-kinds
+use Rattle.carry.proofs.yields.+consistency_roots.Lts-consistency_roots as consistency-roots-lts
+use Rattle.hash.proofs.node.Reads as node-reads
+use Rattle.carry.proofs.bytes.node_at.Reads as node-at-reads
+use Rattle.carry.proofs.split.cut.Reads as cut-reads
+use Rattle.carry.proofs.yields.+consistency_roots.{statement}
+use Rattle.carry.proofs.yields.+consistency_roots.Tie.{close}
+
+abbrev μ-consistency-roots : Measures 1 consistency-roots-kinds.ps ℕ
+μ-consistency-roots κs a = a .1 .1 .0
+
+abbrev consistency-roots-at : ℕ → In 1 consistency-roots-kinds.ps
+consistency-roots-at t = and 1 consistency-roots-kinds.ps (is 1 consistency-roots-kinds.ps μ-consistency-roots t) consistency-roots.Pre
+
+abbrev consistency-roots-below : ℕ → In 1 consistency-roots-kinds.ps
+consistency-roots-below t = and 1 consistency-roots-kinds.ps (falls 1 consistency-roots-kinds.ps _<_ μ-consistency-roots t) consistency-roots.Pre
+
+abbrev calls : ℕ → consistency-roots-lts.Claims
+calls t = (node-at-reads.Asked, node-at-reads.Learnt, cut-reads.Asked, cut-reads.Learnt, consistency-roots-below t, consistency-roots.Post, node-reads.Asked, node-reads.Learnt)
+
+consistency-roots-returns : (t : ℕ) → consistency-roots-lts.Need-returns (calls t) (consistency-roots-at t) consistency-roots.Post
+consistency-roots-returns t c =
+    let a = c .before .before .before .args in
+    both-known sha256 (a .m) (a .n) 0 (a .first .bytes) (a .count) (now (a .path)) (a .known) (omega arith) (omega arith) (c .if2 .taken)
+
+consistency-roots-node-at-requires : (t : ℕ) → consistency-roots-lts.Need-node-at-requires (calls t) (consistency-roots-at t) consistency-roots.Post
+consistency-roots-node-at-requires t c κs =
+    let a = c .before .before .before .args in
+    let q : a .count ≡ 1 = c .before .before .before .pre .1 .2 ∙ sub-all (a .m) (a .n) (a .known) (omega arith) (omega arith) ∙ rw (c .if2 .left) in
+    omega arith
+
+consistency-roots-returns-2 : (t : ℕ) → consistency-roots-lts.Need-returns-2 (calls t) (consistency-roots-at t) consistency-roots.Post
+consistency-roots-returns-2 t c =
+    let a = c .before .before .before .before .args in
+    both-unknown sha256 (a .m) (a .n) 0 (a .first .bytes) (a .count) (now (a .path)) (a .known) (omega arith) (omega arith) (c .before .if2 .left) (c .before .before .before .before .pre .1 .2) (c .node-at .ensures)
+
+consistency-roots-cut-requires : (t : ℕ) → consistency-roots-lts.Need-cut-requires (calls t) (consistency-roots-at t) consistency-roots.Post
+consistency-roots-cut-requires t c κs = omega arith
+
+consistency-roots-sub-c : (t : ℕ) → consistency-roots-lts.Need-sub-c (calls t) (consistency-roots-at t) consistency-roots.Post
+consistency-roots-sub-c t c =
+    let a = c .before .before .before .args in
+    let some = sub-some (a .m) (a .n) (c .cut .result) (a .known) (omega arith) (omega arith) (c .cut .ensures .0) in
+    omega arith
+
+consistency-roots-node-at-requires-2 : (t : ℕ) → consistency-roots-lts.Need-node-at-requires-2 (calls t) (consistency-roots-at t) consistency-roots.Post
+consistency-roots-node-at-requires-2 t c κs =
+    let a = c .before .before .before .args in
+    let some = sub-some (a .m) (a .n) (c .cut .result) (a .known) (omega arith) (omega arith) (c .cut .ensures .0) in
+    omega arith
+
+consistency-roots-consistency-roots-requires : (t : ℕ) → consistency-roots-lts.Need-consistency-roots-requires (calls t) (consistency-roots-at t) consistency-roots.Post
+consistency-roots-consistency-roots-requires t c κs =
+    let a = c .before .before .before .before .before .args in
+    let less = sub-low (a .m) (a .n) (c .before .before .cut .result) (a .known) (omega arith) (omega arith) (c .before .before .cut .ensures .0) (c .if3 .taken) in
+    (omega arith, (omega arith, omega arith, omega arith, omega arith))
+
+consistency-roots-node-requires : (t : ℕ) → consistency-roots-lts.Need-node-requires (calls t) (consistency-roots-at t) consistency-roots.Post
+consistency-roots-node-requires t c κs = omega arith
+
+consistency-roots-returns-3 : (t : ℕ) → consistency-roots-lts.Need-returns-3 (calls t) (consistency-roots-at t) consistency-roots.Post
+consistency-roots-returns-3 t c =
+    let a = c .before .before .before .before .before .before .before .before .before .args in
+    let some = sub-some (a .m) (a .n) (c .before .before .before .before .before .before .cut .result) (a .known) (omega arith) (omega arith) (c .before .before .before .before .before .before .cut .ensures .0) in
+    both-low sha256 (a .m) (a .n) (c .before .before .before .before .before .before .cut .result) (a .first .bytes) (a .count) (now (a .path)) (a .known) (omega arith) (omega arith) (omega arith) (c .before .before .before .before .before .before .cut .ensures .0)
+    (c .before .before .before .before .if3 .taken) (c .before .before .before .consistency-roots .ensures) (c .before .before .before .before .before .node-at2 .ensures) (c .node .ensures)
+
+consistency-roots-sub-consistency-roots : (t : ℕ) → consistency-roots-lts.Need-sub-consistency-roots (calls t) (consistency-roots-at t) consistency-roots.Post
+consistency-roots-sub-consistency-roots t c = omega arith
+
+consistency-roots-sub-consistency-roots-2 : (t : ℕ) → consistency-roots-lts.Need-sub-consistency-roots-2 (calls t) (consistency-roots-at t) consistency-roots.Post
+consistency-roots-sub-consistency-roots-2 t c = omega arith
+
+consistency-roots-consistency-roots-requires-2 : (t : ℕ) → consistency-roots-lts.Need-consistency-roots-requires-2 (calls t) (consistency-roots-at t) consistency-roots.Post
+consistency-roots-consistency-roots-requires-2 t c κs =
+    let a = c .before .before .before .before .before .args in
+    let less = sub-high (a .m) (a .n) (c .before .before .cut .result) (a .known) (omega arith) (omega arith) (c .before .before .cut .ensures .0) (c .if3 .left) in
+    (omega arith, (omega arith, omega arith, omega arith, omega arith))
+
+consistency-roots-node-requires-2 : (t : ℕ) → consistency-roots-lts.Need-node-requires-2 (calls t) (consistency-roots-at t) consistency-roots.Post
+consistency-roots-node-requires-2 t c κs = omega arith
+
+consistency-roots-node-requires-3 : (t : ℕ) → consistency-roots-lts.Need-node-requires-3 (calls t) (consistency-roots-at t) consistency-roots.Post
+consistency-roots-node-requires-3 t c κs = omega arith
+
+consistency-roots-returns-4 : (t : ℕ) → consistency-roots-lts.Need-returns-4 (calls t) (consistency-roots-at t) consistency-roots.Post
+consistency-roots-returns-4 t c =
+    let a = c .before .before .before .before .before .before .before .before .before .before .args in
+    let some = sub-some (a .m) (a .n) (c .before .before .before .before .before .before .before .cut .result) (a .known) (omega arith) (omega arith) (c .before .before .before .before .before .before .before .cut .ensures .0) in
+    both-high sha256 (a .m) (a .n) (c .before .before .before .before .before .before .before .cut .result) (a .first .bytes) (a .count) (now (a .path)) (a .known) (omega arith) (omega arith) (omega arith) (c .before .before .before .before .before .before .before .cut .ensures .0)
+    (c .before .before .before .before .before .if3 .left) (c .before .before .before .before .consistency-roots2 .ensures) (c .before .before .before .before .before .before .node-at2 .ensures) (c .before .node2 .ensures) (c .node3 .ensures)
+
+pub +consistency-roots-spec : {M : Type 1} → statement M
++consistency-roots-spec = close μ-consistency-roots λ t. consistency-roots-lts.spec (calls t)
+    (consistency-roots-at t)
+    consistency-roots.Post
+    (consistency-roots-returns t)
+    (consistency-roots-node-at-requires t)
+    (consistency-roots-returns-2 t)
+    (consistency-roots-cut-requires t)
+    (consistency-roots-sub-c t)
+    (consistency-roots-node-at-requires-2 t)
+    (consistency-roots-consistency-roots-requires t)
+    (consistency-roots-node-requires t)
+    (consistency-roots-returns-3 t)
+    (consistency-roots-sub-consistency-roots t)
+    (consistency-roots-sub-consistency-roots-2 t)
+    (consistency-roots-consistency-roots-requires-2 t)
+    (consistency-roots-node-requires-2 t)
+    (consistency-roots-node-requires-3 t)
+    (consistency-roots-returns-4 t)

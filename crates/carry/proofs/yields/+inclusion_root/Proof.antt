@@ -1,0 +1,129 @@
+-- The proof of the cycle of calls {inclusion_root}: one law of a level for each return. The measure is the size. Assumes nothing.
+use native.Mathlib.Omega.{arith}
+use denote.Ref.{now}
+use Rattle.hash.specs.Digest.{sha256}
+use Rattle.tree.proofs.Counting.{count-some, count-low, count-high}
+use Rattle.tree.proofs.Yielding.{included-one, included-low, included-high}
+use borrow.Author.Needs.{needs}
+use Prim.Native.Nat.{ℕ, _<_}
+use borrow.Fn.Kinds.{In}
+use borrow.Fn.PlainCycle.{Measures, is, falls, and}
+use Rattle.carry.proofs.yields.inclusion_root.Reads as inclusion-root
+use Rattle.carry.proofs.yields.inclusion_root.Kinds as inclusion-root-kinds
+use Rattle.carry.proofs.yields.+inclusion_root.Lts-inclusion_root as inclusion-root-lts
+use Rattle.hash.proofs.node.Reads as node-reads
+use Rattle.carry.proofs.bytes.node_at.Reads as node-at-reads
+use Rattle.carry.proofs.split.cut.Reads as cut-reads
+use Rattle.carry.proofs.yields.+inclusion_root.{statement}
+use Rattle.carry.proofs.yields.+inclusion_root.Tie.{close}
+
+abbrev μ-inclusion-root : Measures 1 inclusion-root-kinds.ps ℕ
+μ-inclusion-root κs a = a .1 .1 .0
+
+abbrev inclusion-root-at : ℕ → In 1 inclusion-root-kinds.ps
+inclusion-root-at t = and 1 inclusion-root-kinds.ps (is 1 inclusion-root-kinds.ps μ-inclusion-root t) inclusion-root.Pre
+
+abbrev inclusion-root-below : ℕ → In 1 inclusion-root-kinds.ps
+inclusion-root-below t = and 1 inclusion-root-kinds.ps (falls 1 inclusion-root-kinds.ps _<_ μ-inclusion-root t) inclusion-root.Pre
+
+abbrev calls : ℕ → inclusion-root-lts.Claims
+calls t = (cut-reads.Asked, cut-reads.Learnt, node-at-reads.Asked, node-at-reads.Learnt, inclusion-root-below t, inclusion-root.Post, node-reads.Asked, node-reads.Learnt)
+
+inclusion-root-returns : (t : ℕ) → inclusion-root-lts.Need-returns (calls t) (inclusion-root-at t) inclusion-root.Post
+inclusion-root-returns t c =
+    let a = c .before .before .args in
+    included-one sha256 (a .place) (a .size) 0 (a .leaf .bytes) (a .count) (now (a .path)) (omega arith)
+
+inclusion-root-cut-requires : (t : ℕ) → inclusion-root-lts.Need-cut-requires (calls t) (inclusion-root-at t) inclusion-root.Post
+inclusion-root-cut-requires t c κs = search needs
+
+inclusion-root-sub-c : (t : ℕ) → inclusion-root-lts.Need-sub-c (calls t) (inclusion-root-at t) inclusion-root.Post
+inclusion-root-sub-c t c =
+    let start = c .before .before .before in
+    let m = start .args .place in
+    let n = start .args .size in
+    let k = c .cut .result in
+    let more : 1 < n = omega arith in
+    let e = c .cut .ensures .0 in
+    let some = count-some m n k more e in
+    omega arith
+
+inclusion-root-node-at-requires : (t : ℕ) → inclusion-root-lts.Need-node-at-requires (calls t) (inclusion-root-at t) inclusion-root.Post
+inclusion-root-node-at-requires t c κs =
+    let start = c .before .before .before in
+    let m = start .args .place in
+    let n = start .args .size in
+    let k = c .cut .result in
+    let more : 1 < n = omega arith in
+    let e = c .cut .ensures .0 in
+    let some = count-some m n k more e in
+    omega arith
+
+inclusion-root-inclusion-root-requires : (t : ℕ) → inclusion-root-lts.Need-inclusion-root-requires (calls t) (inclusion-root-at t) inclusion-root.Post
+inclusion-root-inclusion-root-requires t c κs =
+    let start = c .before .before .before .before .before in
+    let m = start .args .place in
+    let n = start .args .size in
+    let k = c .before .before .cut .result in
+    let more : 1 < n = omega arith in
+    let e = c .before .before .cut .ensures .0 in
+    let q = count-low m n k more e (c .if2 .taken) in
+    (omega arith, (omega arith, omega arith, omega arith))
+
+inclusion-root-node-requires : (t : ℕ) → inclusion-root-lts.Need-node-requires (calls t) (inclusion-root-at t) inclusion-root.Post
+inclusion-root-node-requires t c κs = search needs
+
+inclusion-root-returns-2 : (t : ℕ) → inclusion-root-lts.Need-returns-2 (calls t) (inclusion-root-at t) inclusion-root.Post
+inclusion-root-returns-2 t c =
+    let start = c .before .before .before .before .before .before .before in
+    let m = start .args .place in
+    let n = start .args .size in
+    let k = c .before .before .before .before .cut .result in
+    let more : 1 < n = omega arith in
+    let e = c .before .before .before .before .cut .ensures .0 in
+    let some = count-some m n k more e in
+    included-low sha256 m n k (start .args .leaf .bytes) (start .args .count) (now (start .args .path)) (omega arith) more e (c .node .ensures) (c .before .before .if2 .taken) (c .before .inclusion-root .ensures) (c .before .before .before .node-at .ensures)
+
+inclusion-root-sub-inclusion-root : (t : ℕ) → inclusion-root-lts.Need-sub-inclusion-root (calls t) (inclusion-root-at t) inclusion-root.Post
+inclusion-root-sub-inclusion-root t c = search needs
+
+inclusion-root-inclusion-root-requires-2 : (t : ℕ) → inclusion-root-lts.Need-inclusion-root-requires-2 (calls t) (inclusion-root-at t) inclusion-root.Post
+inclusion-root-inclusion-root-requires-2 t c κs =
+    let start = c .before .before .before .before .before in
+    let m = start .args .place in
+    let n = start .args .size in
+    let k = c .before .before .cut .result in
+    let more : 1 < n = omega arith in
+    let e = c .before .before .cut .ensures .0 in
+    let q = count-high m n k more e (c .if2 .left) in
+    (omega arith, (omega arith, omega arith, omega arith))
+
+inclusion-root-node-requires-2 : (t : ℕ) → inclusion-root-lts.Need-node-requires-2 (calls t) (inclusion-root-at t) inclusion-root.Post
+inclusion-root-node-requires-2 t c κs = search needs
+
+inclusion-root-returns-3 : (t : ℕ) → inclusion-root-lts.Need-returns-3 (calls t) (inclusion-root-at t) inclusion-root.Post
+inclusion-root-returns-3 t c =
+    let start = c .before .before .before .before .before .before .before in
+    let m = start .args .place in
+    let n = start .args .size in
+    let k = c .before .before .before .before .cut .result in
+    let more : 1 < n = omega arith in
+    let e = c .before .before .before .before .cut .ensures .0 in
+    let some = count-some m n k more e in
+    included-high sha256 m n k (start .args .leaf .bytes) (start .args .count) (now (start .args .path)) (omega arith) more e (c .node2 .ensures) (c .before .before .if2 .left) (c .before .before .before .node-at .ensures) (c .before .inclusion-root2 .ensures)
+
+pub +inclusion-root-spec : {M : Type 1} → statement M
++inclusion-root-spec = close μ-inclusion-root λ t. inclusion-root-lts.spec (calls t)
+    (inclusion-root-at t)
+    inclusion-root.Post
+    (inclusion-root-returns t)
+    (inclusion-root-cut-requires t)
+    (inclusion-root-sub-c t)
+    (inclusion-root-node-at-requires t)
+    (inclusion-root-inclusion-root-requires t)
+    (inclusion-root-node-requires t)
+    (inclusion-root-returns-2 t)
+    (inclusion-root-sub-inclusion-root t)
+    (inclusion-root-inclusion-root-requires-2 t)
+    (inclusion-root-node-requires-2 t)
+    (inclusion-root-returns-3 t)

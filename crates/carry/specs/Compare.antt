@@ -1,0 +1,60 @@
+-- Comparing two inclusion proofs for one place, size and root: document 01, 'Carrying forward and comparing', over any hash H.
+-- Assumes nothing: these are definitions.
+use mathlib.Core.Bool.{cond}
+use mathlib.Core.List.{List, _++_}
+use Prim.Native.Nat.{ℕ, _-_}
+use lib.Dec.{ltb, eqb}
+use Rattle.tree.specs.Split.{Shape, one, fork, size, shape}
+use Rattle.tree.specs.Yield.{init, last, inclusionRootOf}
+use Rattle.tree.specs.Joined.{nodes}
+use Rattle.tree.specs.Verdict.{inclusionVerdict}
+use Rattle.tree.specs.Build.{over}
+use Rattle.carry.specs.declared.compare.Compared.{Compared}
+use Rattle.carry.specs.declared.compare.Compared.the-variants.{Same, Collision, Refused}
+use Rattle.carry.specs.Strings.{string, Difference, alike, apart, topmost}
+
+-- a comparison refuses with a number of document 01, says 'same', or hands over two strings
+pub data Comparison : Type 0 where
+  refused : ℕ → Comparison
+  equal : Comparison
+  collision : List ℕ → List ℕ → Comparison
+
+-- its answer in the code
+unfoldable pub answer : Comparison → Compared
+answer (refused n) = Refused n
+answer equal = Same
+answer (collision s t) = Collision
+
+-- the pair buffer after it: the first proof's string first, and the bytes past the two stay
+unfoldable pub pairAfter : Comparison → List ℕ → List ℕ
+pairAfter (refused n) b = b
+pairAfter equal b = b
+pairAfter (collision s t) b = over (s ++ t) b
+
+-- a verdict's number comes before what follows it
+unfoldable pub unless : ℕ → Comparison → Comparison
+unless verdict then = cond (eqb verdict 0) then (refused verdict)
+
+unfoldable pub found : Difference → Comparison
+found alike = equal
+found (apart s t) = collision s t
+
+module _ (H : List ℕ → List ℕ) where
+  -- from the top: the topmost child pairs of the leaf hashes h and g at place m, by the paths p and q, that differ
+  unfoldable pub differOf : Shape → ℕ → List ℕ → List (List ℕ) → List ℕ → List (List ℕ) → Difference
+  differOf one m h p g q = alike
+  differOf (fork a b) m h p g q =
+      cond (ltb m (size a))
+      (topmost (string (inclusionRootOf H a m h (init p)) (last p)) (string (inclusionRootOf H a m g (init q)) (last q)) (differOf a m h (init p) g (init q)))
+      (topmost (string (last p) (inclusionRootOf H b (m - size a) h (init p))) (string (last q) (inclusionRootOf H b (m - size a) g (init q))) (differOf b (m - size a) h (init p) g (init q)))
+
+  unfoldable pub differ : ℕ → ℕ → List ℕ → List (List ℕ) → List ℕ → List (List ℕ) → Difference
+  differ m n h p g q = differOf (shape n) m h p g q
+
+  -- two proofs, with a pair buffer of `pair` bytes
+  unfoldable pub compare : ℕ → ℕ → List ℕ → List ℕ → List ℕ → List ℕ → List ℕ → ℕ → Comparison
+  compare place size root leaf₁ path₁ leaf₂ path₂ pair =
+      unless (inclusionVerdict H leaf₁ place size root path₁)
+      (unless (inclusionVerdict H leaf₂ place size root path₂)
+      (cond (ltb pair 130) (refused 9)
+      (found (differ place size leaf₁ (nodes path₁) leaf₂ (nodes path₂)))))

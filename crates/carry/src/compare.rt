@@ -1,0 +1,107 @@
+// Comparing two inclusion proofs for one place, size and root.
+use super::bytes::node_at;
+use super::bytes::put_pair;
+use super::level::Met;
+use super::level::above;
+use super::level::start;
+use super::split::cut;
+use hash::Digest;
+use tree::verdict::inclusion_verdict;
+ghost use mathlib.Core.Path.{_≡_};
+ghost use Prim.Native.Nat.{_*_, _≤_, _<_};
+ghost use lib.ListN.{length};
+ghost use Rattle.hash.specs.Digest.{sha256};
+ghost use Rattle.tree.specs.Count.{inclusionCount};
+ghost use Rattle.tree.specs.Joined.{firstNodes};
+ghost use Rattle.tree.specs.Yield.{inclusionRoot};
+ghost use Rattle.carry.specs.Compare.{answer, pairAfter, differ};
+ghost use Rattle.carry.specs.Compare as paper;
+ghost use Rattle.carry.specs.Inner.{metAs};
+
+// What a comparison answers.
+pub enum Compared {
+    Same,
+    Collision,
+    Refused(u32),
+}
+
+// Both roots, and the topmost child pairs that differ, by the first `count` nodes of two paths: each node is computed once, bottom up.
+fn meet(
+    one: Digest,
+    two: Digest,
+    place: u64,
+    size: u64,
+    first: &[u8],
+    second: &[u8],
+    count: usize,
+) -> Met
+    requires { ⌜ (place < size) × (count ≡ inclusionCount place size) × (32 * count ≤ length (now first)) × (32 * count ≤ length (now second)) ⌝ }
+    ensures { λ r. ⌜ r .one .bytes ≡ inclusionRoot sha256 place size (one .bytes) (firstNodes count (now (first .entry))) ⌝ }
+    ensures { λ r. ⌜ r .two .bytes ≡ inclusionRoot sha256 place size (two .bytes) (firstNodes count (now (second .entry))) ⌝ }
+    ensures { λ r. ⌜ metAs r ≡ differ sha256 place size (one .bytes) (firstNodes count (now (first .entry))) (two .bytes) (firstNodes count (now (second .entry))) ⌝ }
+{
+    if size <= 1 {
+        return start(one, two);
+    }
+    let k = cut(size);
+    let c = count - 1;
+    let x = node_at(first, c);
+    let y = node_at(second, c);
+    if place < k {
+        let low = meet(one, two, place, k, first, second, c);
+        let u = low.one;
+        let v = low.two;
+        return above(u, x, v, y, low);
+    }
+    let high = meet(one, two, place - k, size - k, first, second, c);
+    let u = high.one;
+    let v = high.two;
+    above(x, u, y, v, high)
+}
+
+// Whether two inclusion proofs for one place, size and root are the same; where they are not, the topmost two strings that differ are
+// written at the start of the pair buffer. Refusals: the first proof's verdict, the second's, then 9 for a pair buffer under 130 bytes.
+pub fn compare(
+    place: u64,
+    size: u64,
+    root: &[u8],
+    leaf1: &[u8],
+    path1: &[u8],
+    leaf2: &[u8],
+    path2: &[u8],
+    pair: &mut [u8],
+) -> Compared
+    ensures { λ r. ⌜ r ≡ answer (paper.compare sha256 place size (now (root .entry)) (now (leaf1 .entry)) (now (path1 .entry)) (now (leaf2 .entry)) (now (path2 .entry)) (length (now (pair .entry)))) ⌝ }
+    ensures { λ _. ⌜ now (pair .exit) ≡ pairAfter (paper.compare sha256 place size (now (root .entry)) (now (leaf1 .entry)) (now (path1 .entry)) (now (leaf2 .entry)) (now (path2 .entry)) (length (now (pair .entry)))) (now (pair .entry)) ⌝ }
+{
+    let first = inclusion_verdict(leaf1, place, size, root, path1);
+    if first != 0 {
+        return Compared::Refused(first);
+    }
+    let second = inclusion_verdict(leaf2, place, size, root, path2);
+    if second != 0 {
+        return Compared::Refused(second);
+    }
+    if pair.len() < 130 {
+        return Compared::Refused(9);
+    }
+    let count = path1.len() / 32;
+    let met = meet(
+        node_at(leaf1, 0),
+        node_at(leaf2, 0),
+        place,
+        size,
+        path1,
+        path2,
+        count,
+    );
+    if met.apart {
+        let a = met.a;
+        let b = met.b;
+        let c = met.c;
+        let d = met.d;
+        put_pair(a, b, c, d, pair);
+        return Compared::Collision;
+    }
+    Compared::Same
+}

@@ -1,0 +1,116 @@
+// Carrying an inclusion proof forward.
+use super::accept::agree;
+use super::accept::fits;
+use super::bytes::node_at;
+use super::bytes::put_pair;
+use super::bytes::put_path;
+use super::walk::walk;
+use tree::verdict::consistency_verdict;
+use tree::verdict::inclusion_verdict;
+ghost use mathlib.Core.Path.{_≡_};
+ghost use lib.ListN.{length};
+ghost use Rattle.hash.specs.Digest.{sha256};
+ghost use Rattle.tree.specs.Verdict.{inclusionVerdict, consistencyVerdict};
+ghost use Rattle.carry.specs.declared.forward.Carried.the-variants.{Refused};
+ghost use Rattle.carry.specs.Inner.{either};
+ghost use Rattle.carry.specs.Forward.{answer, pathAfter, pairAfter};
+ghost use Rattle.carry.specs.Forward as paper;
+
+// What a carrying answers: how many bytes of path it wrote, that it wrote a collision, or the number of its refusal.
+pub enum Carried {
+    Path(usize),
+    Collision,
+    Refused(u32),
+}
+
+// The refusal of two proofs of which one is refused: the inclusion verdict's number, or the consistency verdict's.
+fn refusal(
+    leaf: &[u8],
+    place: u64,
+    m: u64,
+    n: u64,
+    old: &[u8],
+    new: &[u8],
+    path: &[u8],
+    proof: &[u8],
+) -> Carried
+    ensures { λ r. ⌜ r ≡ Refused (either (inclusionVerdict sha256 (now (leaf .entry)) place m (now (old .entry)) (now (path .entry))) (consistencyVerdict sha256 m n (now (old .entry)) (now (new .entry)) (now (proof .entry)))) ⌝ }
+{
+    let inclusion = inclusion_verdict(leaf, place, m, old, path);
+    if inclusion != 0 {
+        return Carried::Refused(inclusion);
+    }
+    Carried::Refused(consistency_verdict(m, n, old, new, proof))
+}
+
+// Carries an inclusion proof at m leaves to n by a consistency proof from m to n: writes the new path, or the two strings of a collision.
+// Refusals: the inclusion verdict, the consistency verdict, then 9 for a path buffer shorter than the path at n or a pair buffer under 130.
+pub fn carry(
+    leaf: &[u8],
+    place: u64,
+    m: u64,
+    n: u64,
+    old: &[u8],
+    new: &[u8],
+    path: &[u8],
+    proof: &[u8],
+    out: &mut [u8],
+    pair: &mut [u8],
+) -> Carried
+    ensures { λ r. ⌜ r ≡ answer (paper.carry sha256 (now (leaf .entry)) place m n (now (old .entry)) (now (new .entry)) (now (path .entry)) (now (proof .entry)) (length (now (out .entry))) (length (now (pair .entry)))) ⌝ }
+    ensures { λ _. ⌜ now (out .exit) ≡ pathAfter (paper.carry sha256 (now (leaf .entry)) place m n (now (old .entry)) (now (new .entry)) (now (path .entry)) (now (proof .entry)) (length (now (out .entry))) (length (now (pair .entry)))) (now (out .entry)) ⌝ }
+    ensures { λ _. ⌜ now (pair .exit) ≡ pairAfter (paper.carry sha256 (now (leaf .entry)) place m n (now (old .entry)) (now (new .entry)) (now (path .entry)) (now (proof .entry)) (length (now (out .entry))) (length (now (pair .entry)))) (now (pair .entry)) ⌝ }
+{
+    if !fits(
+        leaf.len(),
+        place,
+        m,
+        n,
+        old.len(),
+        new.len(),
+        path.len(),
+        proof.len(),
+    ) {
+        return refusal(leaf, place, m, n, old, new, path, proof);
+    }
+    let p = path.len() / 32;
+    let q = proof.len() / 32;
+    let walked = walk(
+        node_at(leaf, 0),
+        place,
+        m,
+        n,
+        true,
+        path,
+        p,
+        node_at(old, 0),
+        proof,
+        q,
+    );
+    let met = walked.met;
+    let one = met.one;
+    let two = met.two;
+    let whole = walked.new;
+    if !agree(one, two, whole, old, new) {
+        return refusal(leaf, place, m, n, old, new, path, proof);
+    }
+    let low = walked.low;
+    let hashed = walked.hashed;
+    let high = walked.high;
+    if out.len() / 32 < low + hashed + (q - high) {
+        return Carried::Refused(9);
+    }
+    if pair.len() < 130 {
+        return Carried::Refused(9);
+    }
+    if met.apart {
+        let a = met.a;
+        let b = met.b;
+        let c = met.c;
+        let d = met.d;
+        put_pair(a, b, c, d, pair);
+        return Carried::Collision;
+    }
+    let sibling = walked.sibling;
+    Carried::Path(put_path(path, low, sibling, hashed, proof, high, out))
+}

@@ -1,0 +1,77 @@
+// One level of two proofs of one root.
+use super::bytes::equal;
+use hash::Digest;
+ghost use mathlib.Core.Path.{_≡_};
+ghost use Rattle.hash.specs.Digest.{nodeHash};
+ghost use Rattle.tree.specs.Joined.{same};
+ghost use Rattle.carry.specs.Strings.{string, alike, topmost};
+ghost use Rattle.carry.specs.Inner.{metAs};
+
+// The roots that two proofs yield; and whether child pairs differ below them, with the topmost two that do: a, b and c, d.
+pub(crate) struct Met {
+    pub one: Digest,
+    pub two: Digest,
+    pub apart: bool,
+    pub a: Digest,
+    pub b: Digest,
+    pub c: Digest,
+    pub d: Digest,
+}
+
+// Nothing differs, and the roots are these.
+pub(crate) fn start(one: Digest, two: Digest) -> Met
+    ensures { λ r. ⌜ (r .one .bytes ≡ one .bytes) × (r .two .bytes ≡ two .bytes) ⌝ }
+    ensures { λ r. ⌜ metAs r ≡ alike ⌝ }
+{
+    Met {
+        one,
+        two,
+        apart: false,
+        a: one,
+        b: one,
+        c: two,
+        d: two,
+    }
+}
+
+// Whether two child pairs are the same.
+fn pairs(a: Digest, b: Digest, c: Digest, d: Digest) -> bool
+    ensures { λ r. ⌜ r ≡ same (string (a .bytes) (b .bytes)) (string (c .bytes) (d .bytes)) ⌝ }
+{
+    if !equal(a, c) {
+        return false;
+    }
+    equal(b, d)
+}
+
+// One level up: two child pairs, and what was met below them. Pairs that are the same are hashed once.
+pub(crate) fn above(a: Digest, b: Digest, c: Digest, d: Digest, below: Met) -> Met
+    ensures { λ r. ⌜ (r .one .bytes ≡ nodeHash (a .bytes) (b .bytes)) × (r .two .bytes ≡ nodeHash (c .bytes) (d .bytes)) ⌝ }
+    ensures { λ r. ⌜ metAs r ≡ topmost (string (a .bytes) (b .bytes)) (string (c .bytes) (d .bytes)) (metAs below) ⌝ }
+{
+    let root = hash::node(a, b);
+    if pairs(a, b, c, d) {
+        let w = below.a;
+        let x = below.b;
+        let y = below.c;
+        let z = below.d;
+        return Met {
+            one: root,
+            two: root,
+            apart: below.apart,
+            a: w,
+            b: x,
+            c: y,
+            d: z,
+        };
+    }
+    Met {
+        one: root,
+        two: hash::node(c, d),
+        apart: true,
+        a,
+        b,
+        c,
+        d,
+    }
+}

@@ -1,0 +1,12 @@
+// Carrying an inclusion proof forward and comparing two, document 01, 'Carrying forward and comparing': a proof at an old size becomes a
+// proof at a new size, or two strings with one hash are handed over. specs/ has the definitions over any hash; proofs/ has the laws that
+// crates above may cite.
+pub mod compare; // two inclusion proofs for one place, size and root
+pub mod forward; // an inclusion proof, by a consistency proof to a larger size
+mod accept; // when both verdicts accept
+mod bytes; // hashes in buffers
+mod count; // how many nodes a path has
+mod level; // one level of two proofs
+mod split; // the two parts of a list
+mod walk; // the way down to the full subtree that holds a place
+mod yields; // the roots that a path yields

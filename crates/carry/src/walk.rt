@@ -1,0 +1,113 @@
+// The way from the top of the new tree down to the full subtree of the old one that holds a place.
+use super::bytes::node_at;
+use super::level::Met;
+use super::level::above;
+use super::level::start;
+use super::split::cut;
+use super::yields::consistency_roots;
+use super::yields::inclusion_root;
+use hash::Digest;
+ghost use mathlib.Core.Path.{_≡_};
+ghost use Prim.Native.Nat.{_+_, _*_, _≤_, _<_};
+ghost use lib.ListN.{length};
+ghost use Rattle.hash.specs.Digest.{sha256};
+ghost use Rattle.tree.specs.Count.{inclusionCount, subproofCount};
+ghost use Rattle.tree.specs.Joined.{firstNodes};
+ghost use Rattle.tree.specs.Yield.{inclusionRoot, oldRoot, newRoot};
+ghost use Rattle.carry.specs.Forward.{conflict, forward};
+ghost use Rattle.carry.specs.Inner.{metAs, pathAs};
+
+// What the inclusion proof and the consistency path met, by the old root that each yields; the new root; and the new path: `low` nodes of
+// the old one, the sibling if `hashed` is 1, and the nodes of the consistency path from `high` on.
+pub(crate) struct Walked {
+    pub met: Met,
+    pub new: Digest,
+    pub low: usize,
+    pub hashed: usize,
+    pub sibling: Digest,
+    pub high: usize,
+}
+
+// The walk at place x of the first m of n leaves, with p nodes of the old path and q of the consistency path.
+pub(crate) fn walk(
+    leaf: Digest,
+    x: u64,
+    m: u64,
+    n: u64,
+    known: bool,
+    path: &[u8],
+    p: usize,
+    first: Digest,
+    proof: &[u8],
+    q: usize,
+) -> Walked
+    requires { ⌜ (x < m) × (m ≤ n) × (p ≡ inclusionCount x m) × (32 * p ≤ length (now path)) × (q ≡ subproofCount m n known) × (32 * q ≤ length (now proof)) ⌝ }
+    ensures { λ r. ⌜ r .met .one .bytes ≡ inclusionRoot sha256 x m (leaf .bytes) (firstNodes p (now (path .entry))) ⌝ }
+    ensures { λ r. ⌜ r .met .two .bytes ≡ oldRoot sha256 m n known (first .bytes) (firstNodes q (now (proof .entry))) ⌝ }
+    ensures { λ r. ⌜ r .new .bytes ≡ newRoot sha256 m n known (first .bytes) (firstNodes q (now (proof .entry))) ⌝ }
+    ensures { λ r. ⌜ metAs (r .met) ≡ conflict sha256 m n x (leaf .bytes) (firstNodes p (now (path .entry))) (first .bytes) (firstNodes q (now (proof .entry))) ⌝ }
+    ensures { λ r. ⌜ pathAs r (now (path .entry)) (now (proof .entry)) q ≡ forward sha256 m n x (firstNodes p (now (path .entry))) (first .bytes) (firstNodes q (now (proof .entry))) ⌝ }
+    ensures { λ r. ⌜ (r .low ≤ p) × (r .hashed ≤ 1) × (r .high ≤ q) ⌝ }
+{
+    if m == n {
+        let y = inclusion_root(leaf, x, m, path, p);
+        let whole = consistency_roots(first, m, n, known, proof, q);
+        let old = whole.old;
+        let new = whole.new;
+        return Walked {
+            met: start(y, old),
+            new,
+            low: p,
+            hashed: 0,
+            sibling: new,
+            high: q,
+        };
+    }
+    let k = cut(n);
+    let j = q - 1;
+    let top = node_at(proof, j);
+    if m <= k {
+        let below = walk(leaf, x, m, k, known, path, p, first, proof, j);
+        let met = below.met;
+        let new = below.new;
+        let sibling = below.sibling;
+        return Walked {
+            met,
+            new: hash::node(new, top),
+            low: below.low,
+            hashed: below.hashed,
+            sibling,
+            high: below.high,
+        };
+    }
+    let i = p - 1;
+    let side = node_at(path, i);
+    if x < k {
+        let y = inclusion_root(leaf, x, k, path, i);
+        let rest = consistency_roots(first, m - k, n - k, false, proof, j);
+        let old = rest.old;
+        let new = rest.new;
+        return Walked {
+            met: above(y, side, top, old, start(y, old)),
+            new: hash::node(top, new),
+            low: i,
+            hashed: 1,
+            sibling: new,
+            high: q,
+        };
+    }
+    let below = walk(leaf, x - k, m - k, n - k, false, path, i, first, proof, j);
+    let met = below.met;
+    let y = met.one;
+    let old = met.two;
+    let new = below.new;
+    let sibling = below.sibling;
+    Walked {
+        met: above(side, y, top, old, met),
+        new: hash::node(top, new),
+        low: below.low,
+        hashed: below.hashed,
+        sibling,
+        high: below.high,
+    }
+}
