@@ -6,6 +6,7 @@
 #ifndef MTA_H
 #define MTA_H
 
+#include <stdbool.h>
 #include <stddef.h>
 #include <stdint.h>
 
@@ -38,6 +39,24 @@ uint32_t mta_inclusion(const uint8_t *leaf, size_t leaf_len, uint64_t place, uin
  * Refusals: MTA_LENGTH (a root not of 32 bytes), MTA_JOINED, MTA_RANGE, MTA_COUNT, MTA_ROOT. */
 uint32_t mta_consistency(uint64_t first, uint64_t second, const uint8_t *root1, size_t root1_len,
                          const uint8_t *root2, size_t root2_len, const uint8_t *path, size_t path_len);
+
+/* Carries an inclusion proof at the first size to the second by a consistency proof. *collided is set where
+ * the two proofs contradict each other: then the first 130 bytes of pair are two different strings of 65 bytes
+ * with one SHA-256 value. Else the new path is written to out, *written bytes.
+ * Refusals: mta_inclusion's, mta_consistency's, then MTA_ROOM (out shorter than the new path, or pair under 130). */
+uint32_t mta_carry(const uint8_t *leaf, size_t leaf_len, uint64_t place, uint64_t first, uint64_t second,
+                   const uint8_t *root1, size_t root1_len, const uint8_t *root2, size_t root2_len,
+                   const uint8_t *path, size_t path_len, const uint8_t *proof, size_t proof_len,
+                   uint8_t *out, size_t out_len, uint8_t *pair, size_t pair_len,
+                   uint64_t *written, bool *collided);
+
+/* Compares two inclusion proofs for one place, size and root. *collided is set where they differ: then pair
+ * has two different strings with one SHA-256 value, as mta_carry leaves them.
+ * Refusals: mta_inclusion's of the first, of the second, then MTA_ROOM (pair under 130). */
+uint32_t mta_compare(uint64_t place, uint64_t size, const uint8_t *root, size_t root_len,
+                     const uint8_t *leaf1, size_t leaf1_len, const uint8_t *path1, size_t path1_len,
+                     const uint8_t *leaf2, size_t leaf2_len, const uint8_t *path2, size_t path2_len,
+                     uint8_t *pair, size_t pair_len, bool *collided);
 
 /* The root of joined leaf hashes, 32 bytes each, into the first 32 bytes of out; of no leaves, the
  * hash of the empty string. Refusals: MTA_JOINED (not a multiple of 32, or over 2^32 leaves), MTA_ROOM. */

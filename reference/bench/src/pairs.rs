@@ -2,7 +2,7 @@
 //! work: ours and the other in turn.
 
 use crate::{best, median};
-use mta::{mta_consistency, mta_consistency_item, mta_inclusion, mta_item, mta_node, mta_root};
+use mta::{mta_carry, mta_compare, mta_consistency, mta_consistency_item, mta_inclusion, mta_item, mta_node, mta_root};
 use reference::item::{self, Fields, LONGEST_PATH};
 use reference::proofs::{made_consistency, made_inclusion, Proof};
 use reference::random::Random;
@@ -109,6 +109,113 @@ fn verdicts(random: &mut Random) -> Vec<Pair> {
     all
 }
 
+/// A log of equal leaves, so that full subtrees of one size have one root: an
+/// inclusion proof of place 0 at 2^32 - 1 leaves, and a consistency proof from
+/// there to 2^32.
+struct Log {
+    leaf: Hash,
+    old: Hash,
+    new: Hash,
+    path: Vec<u8>,
+    proof: Vec<u8>,
+    longer: Vec<u8>,
+}
+
+const OLD_SIZE: u64 = NEW_SIZE - 1;
+const NEW_SIZE: u64 = 1 << 32;
+
+impl Log {
+    fn new(leaf: Hash) -> Log {
+        let mut full = vec![leaf];
+        for level in 0..32 {
+            full.push(node(&full[level], &full[level]));
+        }
+        let mut old = leaf;
+        let mut path = full[..31].concat();
+        for (level, hash) in full[1..32].iter().enumerate() {
+            if level == 30 {
+                path.extend(old);
+            }
+            old = node(hash, &old);
+        }
+        let proof = [&[leaf], &full[..32]].concat().concat();
+        Log { leaf, old, new: full[32], path, proof, longer: full[..32].concat() }
+    }
+
+    fn judged(&self) {
+        let (leaf, root, path) = (&self.leaf, &self.old, &self.path);
+        assert_eq!(unsafe { mta_inclusion(leaf.as_ptr(), 32, 0, OLD_SIZE, root.as_ptr(), 32, path.as_ptr(), path.len()) }, 0);
+    }
+
+    fn carried(&self) {
+        let (mut out, mut pair, mut written, mut collided) = ([0; 1024], [0; 130], 0, true);
+        let number = unsafe {
+            mta_carry(
+                self.leaf.as_ptr(),
+                32,
+                0,
+                OLD_SIZE,
+                NEW_SIZE,
+                self.old.as_ptr(),
+                32,
+                self.new.as_ptr(),
+                32,
+                self.path.as_ptr(),
+                self.path.len(),
+                self.proof.as_ptr(),
+                self.proof.len(),
+                out.as_mut_ptr(),
+                out.len(),
+                pair.as_mut_ptr(),
+                pair.len(),
+                &mut written,
+                &mut collided,
+            )
+        };
+        assert_eq!((number, written, collided, &out[..]), (0, 1024, false, &self.longer[..]));
+    }
+
+    fn compared(&self) {
+        let (mut pair, mut collided) = ([0; 130], true);
+        let (leaf, path) = (self.leaf.as_ptr(), self.path.as_ptr());
+        let number = unsafe {
+            mta_compare(
+                0,
+                OLD_SIZE,
+                self.old.as_ptr(),
+                32,
+                leaf,
+                32,
+                path,
+                self.path.len(),
+                leaf,
+                32,
+                path,
+                self.path.len(),
+                pair.as_mut_ptr(),
+                pair.len(),
+                &mut collided,
+            )
+        };
+        assert_eq!((number, collided), (0, false));
+    }
+}
+
+fn forward(random: &mut Random) -> Vec<Pair> {
+    let leaf = random.hash();
+    let pair = |name: &str, job: fn(&Log)| {
+        let (one, two) = (Log::new(leaf), Log::new(leaf));
+        Pair {
+            name: name.to_string(),
+            other_name: "inclusion verdict".to_string(),
+            ours: Box::new(move || job(black_box(&one))),
+            other: Box::new(move || black_box(&two).judged()),
+            target: Target::AtMost(4.0),
+        }
+    };
+    vec![pair("carry, 32 levels", Log::carried), pair("compare, 32 levels", Log::compared)]
+}
+
 fn plain_root(leaves: &[Hash]) -> Hash {
     match leaves {
         [] => digest(&[]),
@@ -207,11 +314,13 @@ fn time(job: &mut dyn FnMut(), times: usize) -> f64 {
 pub fn print_table() {
     let random = &mut Random::new(7);
     let mut pairs = verdicts(random);
+    pairs.extend(forward(random));
     pairs.push(root(random));
     pairs.extend(items(random));
 
     println!("{TURNS} turns of each, of the root {TURNS_OF_ROOT}; nanoseconds of the best turn");
     println!("ratio, of the best turns (and the median of each turn's): of a verdict our time / the time of the bare node hashes,");
+    println!("of carrying and comparing our time / the inclusion verdict's,");
     println!("of the others the other's time / ours");
     println!();
     println!("{:<30}{:>14}  {:<20}{:>14}{:>18}  target", "", "ours", "other", "", "ratio");

@@ -21,6 +21,44 @@ extern "C" {
         path: *const u8,
         path_len: usize,
     ) -> u32;
+    pub fn mta_carry(
+        leaf: *const u8,
+        leaf_len: usize,
+        place: u64,
+        first: u64,
+        second: u64,
+        root1: *const u8,
+        root1_len: usize,
+        root2: *const u8,
+        root2_len: usize,
+        path: *const u8,
+        path_len: usize,
+        proof: *const u8,
+        proof_len: usize,
+        out: *mut u8,
+        out_len: usize,
+        pair: *mut u8,
+        pair_len: usize,
+        written: *mut u64,
+        collided: *mut bool,
+    ) -> u32;
+    pub fn mta_compare(
+        place: u64,
+        size: u64,
+        root: *const u8,
+        root_len: usize,
+        leaf1: *const u8,
+        leaf1_len: usize,
+        path1: *const u8,
+        path1_len: usize,
+        leaf2: *const u8,
+        leaf2_len: usize,
+        path2: *const u8,
+        path2_len: usize,
+        pair: *mut u8,
+        pair_len: usize,
+        collided: *mut bool,
+    ) -> u32;
     pub fn mta_root(leaves: *const u8, leaves_len: usize, out: *mut u8, out_len: usize) -> u32;
     pub fn mta_item(item: *const u8, item_len: usize, place: *mut u64) -> u32;
     pub fn mta_consistency_item(
