@@ -12,6 +12,7 @@ mod writer;
 ghost use Rattle.item.specs.Claims.{ReadThenWritten, ReadGives, WrittenThenRead, WriterKeeps, RefusedWithin, FieldsWithin, EmptyIsNeither};
 pub use heads::newer;
 pub use layout::Part;
+pub use layout::big_endian;
 pub use reader::Item;
 pub use reader::read;
 pub use writer::Numbers;

@@ -1,0 +1,49 @@
+-- Lists of calls that an auditor gets, and what they answer. Assumes nothing: these are definitions.
+use mathlib.Core.List.{List, [], _∷_}
+use Prim.Native.Nat.{ℕ, zero, suc}
+use Rattle.auditor.specs.declared.Record.{Record}
+use Rattle.auditor.specs.declared.Answered.{Answered}
+use Rattle.auditor.specs.Held.{Held}
+use Rattle.auditor.specs.Offer.{offerNumber, kept, offered}
+use Rattle.auditor.specs.Page.{pageNumber, asked}
+use Rattle.auditor.specs.Heads.{Heads, end, then}
+
+-- a call with all its arguments
+pub data Call : Type 0 where
+  offer : (id : List ℕ) (time size : ℕ) (root path : List ℕ) → Call
+  ask : (place : ℕ) (page path : List ℕ) → Call
+
+-- a call and the number it answered: accepted is 0
+pub data Entry : Type 0 where
+  answered : Call → ℕ → Entry
+
+-- the code's calls: the first is given the record r, each later one the record that the call before returned, refused or not
+unfoldable pub called : Record → Call → Answered
+called r (offer id time size root path) = offered r id time size root path
+called r (ask place page path) = asked r place page path
+
+unfoldable pub answers : Record → List Call → List Entry
+answers r [] = []
+answers r (c ∷ calls) = answered c (called r c .number) ∷ answers (called r c .after) calls
+
+-- the same in the paper's terms, over any hash H
+module _ (H : List ℕ → List ℕ) where
+  unfoldable pub number : Held → Call → ℕ
+  number held (offer id time size root path) = offerNumber H held id time size root path
+  number held (ask place page path) = pageNumber H held place page path
+
+  -- the record after a call that answered a number
+  unfoldable pub after : Held → Call → ℕ → Held
+  after held (offer id time size root path) n = kept held id time size root n
+  after held (ask place page path) n = held
+
+  unfoldable pub run : Held → List Call → List Entry
+  run held [] = []
+  run held (c ∷ calls) = answered c (number held c) ∷ run (after held c (number held c)) calls
+
+-- the heads accepted, in order, by the arguments of their offers
+unfoldable pub heads : List Entry → Heads
+heads [] = end
+heads (answered (offer id time size root path) zero ∷ entries) = then size root path (heads entries)
+heads (answered (offer id time size root path) (suc n) ∷ entries) = heads entries
+heads (answered (ask place page path) n ∷ entries) = heads entries

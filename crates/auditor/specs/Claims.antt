@@ -1,0 +1,70 @@
+-- What else is proved of every list of calls. Assumes nothing: these are statements.
+use mathlib.Core.Path.{_≡_}
+use mathlib.Core.List.{List, [], _∷_, _++_, map}
+use Prim.Native.Nat.{ℕ, zero, suc, _*_, _≤_, _<_}
+use lib.ListN.{length, take, getD}
+use Rattle.hash.specs.Digest.{sha256}
+use Rattle.hash.specs.Answers.{mostItem}
+use Rattle.tree.specs.Limits.{largestSize}
+use Rattle.tree.specs.Tree.{leaf, root}
+use Rattle.tree.specs.Joined.{nodes, joined}
+use Rattle.tree.specs.Build.{wrote, inclusionBuilt, consistencyBuilt}
+use Rattle.auditor.specs.declared.Record.{Record}
+use Rattle.auditor.specs.declared.dispute.Settled.the-variants.{Same}
+use Rattle.auditor.specs.Held.{Held, empty, head, view, none}
+use Rattle.auditor.specs.Heads.{lastSize, lastRoot, joinedHeads, headsOf}
+use Rattle.auditor.specs.Dispute.{dispute, answer}
+use Rattle.auditor.specs.Calls.{Call, offer, ask, Entry, answered, called, answers, heads}
+
+-- the code's record after a list of calls
+unfoldable pub final : Record → List Call → Record
+final r [] = r
+final r (c ∷ calls) = final (called r c .after) calls
+
+-- the head of the last accepted offer
+unfoldable pub lastHead : Held → List Entry → Held
+lastHead held [] = held
+lastHead held (answered (offer id time size root path) zero ∷ entries) = lastHead (head id time size root) entries
+lastHead held (answered (offer id time size root path) (suc n) ∷ entries) = lastHead held entries
+lastHead held (answered (ask place page path) n ∷ entries) = lastHead held entries
+
+-- whatever the record holds was accepted, and last
+abbrev pub HeldIsAccepted : Type 0
+HeldIsAccepted = (calls : List Call) → view (final none calls) ≡ lastHead empty (answers none calls)
+
+-- of two accepted heads the later has the log id of the earlier, no smaller size and no earlier timestamp
+abbrev pub NeverBack : Type 0
+NeverBack =
+    (calls : List Call) (before between rest : List Entry) (id₁ id₂ : List ℕ) (time₁ time₂ size₁ size₂ : ℕ) (root₁ root₂ path₁ path₂ : List ℕ) →
+    answers none calls ≡ before ++ (answered (offer id₁ time₁ size₁ root₁ path₁) 0 ∷ (between ++ (answered (offer id₂ time₂ size₂ root₂ path₂) 0 ∷ rest))) →
+    (id₁ ≡ id₂) × (size₁ ≤ size₂) × (time₁ ≤ time₂)
+
+-- An honest log: its id, and its pages in order.
+module _ (id : List ℕ) (pages : List (List ℕ)) where
+  -- the leaf hashes of the first n pages, joined
+  unfoldable pub leaves : ℕ → List ℕ
+  leaves n = take (32 * n) (joined (map (leaf sha256) pages))
+
+  -- The calls that it serves, where the head held has size m and timestamp t, and m is 0 where none is held: its heads, the paths from head to head, and
+  -- its pages with their paths, all as the builders make them.
+  pub data Served : ℕ → ℕ → List Call → Type 0 where
+    done : {m t : ℕ} → Served m t []
+    first : {t n time : ℕ} {calls : List Call} → 0 < n → n ≤ length pages → Served n time calls →
+        Served 0 t (offer id time n (root sha256 (nodes (leaves n))) [] ∷ calls)
+    later : {m t n time : ℕ} (room : ℕ) {path : List ℕ} {calls : List Call} → m ≤ n → n ≤ length pages → t ≤ time → consistencyBuilt sha256 (leaves n) m room ≡ wrote path →
+        Served n time calls → Served m t (offer id time n (root sha256 (nodes (leaves n))) path ∷ calls)
+    page : {m t place : ℕ} (room : ℕ) {path : List ℕ} {calls : List Call} → inclusionBuilt sha256 (leaves m) place room ≡ wrote path →
+        Served m t calls → Served m t (ask place (getD pages place []) path ∷ calls)
+
+-- every head and every page of an honest log is accepted, and a dispute about two of its pages says that they are the same
+pub record HonestFor (id : List ℕ) (pages : List (List ℕ)) (calls : List Call) : Type 0 where
+  pub accepted : answers none calls ≡ map (λ (c : Call). answered c 0) calls
+  pub same :
+      (before between rest : List Entry) (place : ℕ) (page₁ path₁ page₂ path₂ pair : List ℕ) →
+      answers none calls ≡ before ++ (answered (ask place page₁ path₁) 0 ∷ (between ++ (answered (ask place page₂ path₂) 0 ∷ rest))) → 130 ≤ length pair →
+      answer (dispute sha256 page₁ place path₁ (lastSize 0 (heads before)) (lastRoot [] (heads before)) (headsOf (joinedHeads (heads between))) page₂ path₂ (length pair)) ≡ Same
+
+abbrev pub HonestLog : Type 0
+HonestLog =
+    (id : List ℕ) (pages : List (List ℕ)) (calls : List Call) → 2 ≤ length id → length id ≤ 127 → length pages ≤ largestSize →
+    ((i : ℕ) → length (getD pages i []) ≤ mostItem) → Served id pages 0 0 calls → HonestFor id pages calls

@@ -1,0 +1,74 @@
+-- The dispute about two pages that were accepted at one place: document 01, the last paragraph of 'Carrying forward and comparing', over any hash H.
+-- It is given nothing of the record. Assumes nothing: these are definitions.
+use mathlib.Core.Path.{_≡_}
+use mathlib.Core.Bool.{cond}
+use mathlib.Core.List.{List, _∷_, _++_}
+use Prim.Native.Nat.{ℕ}
+use lib.Dec.{ltb, eqb}
+use lib.ListN.{length, take, drop}
+use Rattle.hash.specs.Answers.{mostItem}
+use Rattle.tree.specs.Build.{over}
+use Rattle.tree.specs.Joined.{same}
+use Rattle.tree.specs.Verdict.{inclusionVerdict}
+use Rattle.carry.specs.Forward.{Forward, carry}
+use Rattle.carry.specs.Compare.{Comparison, compare}
+use Rattle.auditor.specs.declared.dispute.Settled.{Settled}
+use Rattle.auditor.specs.declared.dispute.Settled.the-variants.{Same, Nodes, Pages, Refused}
+use Rattle.auditor.specs.Heads.{Heads, end, cut, then}
+
+-- the bytes of the longest inclusion path
+abbrev pub longestPath : ℕ
+longestPath = 1024
+
+-- it refuses with a number of document 01, finds the pages the same, or hands over two strings: of nodes, or the two pages with 0x00 before each
+pub data Finding : Type 0 where
+  refused : ℕ → Finding
+  alike : Finding
+  nodes : List ℕ → List ℕ → Finding
+  pages : Finding
+
+-- its answer in the code
+unfoldable pub answer : Finding → Settled
+answer (refused n) = Refused n
+answer alike = Same
+answer (nodes s t) = Nodes
+answer pages = Pages
+
+-- the pair buffer after it
+unfoldable pub pairAfter : Finding → List ℕ → List ℕ
+pairAfter (refused n) b = b
+pairAfter alike b = b
+pairAfter (nodes s t) b = over (s ++ t) b
+pairAfter pages b = b
+
+-- a carried path is carried on; a collision ends the work
+unfoldable pub onward : Forward → (List ℕ → Finding) → Finding
+onward (Forward.refused n) go = refused n
+onward (Forward.carried p) go = go p
+onward (Forward.collision s t) go = nodes s t
+
+-- proofs that are the same leave the page bytes to be compared
+unfoldable pub settled : List ℕ → List ℕ → Comparison → Finding
+settled page₁ page₂ (Comparison.refused n) = refused n
+settled page₁ page₂ Comparison.equal = cond (same page₁ page₂) alike pages
+settled page₁ page₂ (Comparison.collision s t) = nodes s t
+
+-- a number comes before what follows it
+unfoldable pub unless : ℕ → Finding → Finding
+unless number rest = cond (eqb number 0) rest (refused number)
+
+module _ (H : List ℕ → List ℕ) where
+  -- with the first page's path p under a size m and a root r: over each head, in order, then against the second page's path
+  unfoldable pub follow : ℕ → List ℕ → List ℕ → List ℕ → ℕ → Heads → ℕ → List ℕ → List ℕ → Finding
+  follow place page₁ page₂ path₂ pair end m r p = settled page₁ page₂ (compare H place m r (H (0 ∷ page₁)) p (H (0 ∷ page₂)) path₂ pair)
+  follow place page₁ page₂ path₂ pair cut m r p = refused 2
+  follow place page₁ page₂ path₂ pair (then n s q hs) m r p =
+      onward (carry H (H (0 ∷ page₁)) place m n r s p q longestPath pair) (follow place page₁ page₂ path₂ pair hs n s)
+
+  -- the first page, its place and path, the size and root of the head then held, the heads accepted since, the second page and its path, and the
+  -- length of the pair buffer
+  unfoldable pub dispute : List ℕ → ℕ → List ℕ → ℕ → List ℕ → Heads → List ℕ → List ℕ → ℕ → Finding
+  dispute page₁ place path₁ size root heads page₂ path₂ pair =
+      cond (ltb mostItem (length page₁)) (refused 1)
+      (cond (ltb mostItem (length page₂)) (refused 1)
+      (unless (inclusionVerdict H (H (0 ∷ page₁)) place size root path₁) (follow place page₁ page₂ path₂ pair heads size root path₁)))

@@ -1,0 +1,59 @@
+-- Heads in order, each by the arguments of its offer, and how they are joined in a buffer: of each the size in 8 bytes, the root in 32, the count
+-- of nodes in 2, and the nodes of its consistency path. Assumes nothing: these are definitions.
+use mathlib.Core.Bool.{cond}
+use mathlib.Core.List.{List, [], _++_}
+use Prim.Native.Nat.{ℕ, zero, suc, _+_, _-_, _*_, _/_}
+use lib.Dec.{ltb, eqb}
+use lib.ListN.{length, take, drop}
+use Rattle.item.specs.Layout.{be, unbe}
+
+-- `cut` where a buffer ends within a head
+pub data Heads : Type 0 where
+  end : Heads
+  cut : Heads
+  then : (size : ℕ) (root path : List ℕ) → Heads → Heads
+
+-- heads joined
+unfoldable pub joinedHeads : Heads → List ℕ
+joinedHeads end = []
+joinedHeads cut = []
+joinedHeads (then size root path hs) = be 8 size ++ (root ++ (be 2 (length path / 32) ++ (path ++ joinedHeads hs)))
+
+-- the parts of the first head
+abbrev pub sizeOf : List ℕ → ℕ
+sizeOf s = unbe (take 8 s)
+
+abbrev pub rootOf : List ℕ → List ℕ
+rootOf s = take 32 (drop 8 s)
+
+abbrev pub countOf : List ℕ → ℕ
+countOf s = unbe (take 2 (drop 40 s))
+
+abbrev pub pathOf : List ℕ → List ℕ
+pathOf s = take (32 * countOf s) (drop 42 s)
+
+-- how many bytes it has, or 0 where it is cut short
+unfoldable pub headBytes : List ℕ → ℕ
+headBytes s = cond (ltb (length s) 42) 0 (cond (ltb (length s - 42) (32 * countOf s)) 0 (42 + 32 * countOf s))
+
+-- the heads that a buffer joins; f bounds how many
+unfoldable pub headsIn : ℕ → List ℕ → Heads
+headsIn zero s = end
+headsIn (suc f) s =
+    cond (eqb (length s) 0) end
+    (cond (eqb (headBytes s) 0) cut
+    (then (sizeOf s) (rootOf s) (pathOf s) (headsIn f (drop (headBytes s) s))))
+
+abbrev pub headsOf : List ℕ → Heads
+headsOf s = headsIn (length s) s
+
+-- the last of them: its size and its root; these where there is none
+unfoldable pub lastSize : ℕ → Heads → ℕ
+lastSize n end = n
+lastSize n cut = n
+lastSize n (then size root path hs) = lastSize size hs
+
+unfoldable pub lastRoot : List ℕ → Heads → List ℕ
+lastRoot r end = r
+lastRoot r cut = r
+lastRoot r (then size root path hs) = lastRoot root hs

@@ -1,0 +1,29 @@
+-- The auditor's record: document 01, 'Auditor'. Assumes nothing: these are definitions.
+use mathlib.Core.Bool.{true, false, cond}
+use mathlib.Core.List.{List}
+use Prim.Native.Nat.{ℕ, zero, suc}
+use lib.ListN.{length, take, replicate}
+use Rattle.tree.specs.Build.{over}
+use Rattle.auditor.specs.declared.Record.{Record}
+
+-- empty, or one head: log id, timestamp, size, root
+pub data Held : Type 0 where
+  empty : Held
+  head : (id : List ℕ) (timestamp size : ℕ) (root : List ℕ) → Held
+
+-- the log id of the code's record: as many of its bytes as the length says
+abbrev pub idOf : Record → List ℕ
+idOf r = take (r .idlen) (r .id)
+
+-- what every value of the code's record stands for
+unfoldable pub view : Record → Held
+view r = cond (r .held) (head (idOf r) (r .timestamp) (r .size) (r .root)) empty
+
+-- the code's empty record
+unfoldable pub none : Record
+none = record { held = false; id = replicate 127 0; idlen = 0; timestamp = 0; size = 0; root = replicate 32 0 }
+
+-- the code's record of a head: the log id has zeros after it
+unfoldable pub holding : List ℕ → ℕ → ℕ → List ℕ → Record
+holding id timestamp size root =
+    record { held = true; id = over id (replicate 127 0); idlen = length id; timestamp = timestamp; size = size; root = root }

@@ -1,0 +1,82 @@
+// The bytes of a record: copying them and comparing them.
+use crate::Record;
+ghost use mathlib.Core.Path.{_≡_};
+ghost use mathlib.Core.Bool.{not, _&&_};
+ghost use lib.Dec.{eqb};
+ghost use lib.ListN.{length, take, replicate};
+ghost use Rattle.tree.specs.Build.{over};
+ghost use Rattle.tree.specs.Joined.{same};
+ghost use Rattle.auditor.specs.Held.{idOf};
+
+pub(crate) fn no_id() -> [u8; 127]
+    ensures { λ r. ⌜ r ≡ replicate 127 0 ⌝ }
+{
+    [0; 127]
+}
+
+pub(crate) fn no_root() -> [u8; 32]
+    ensures { λ r. ⌜ r ≡ replicate 32 0 ⌝ }
+{
+    [0; 32]
+}
+
+// Copies a slice to the start of a buffer, as far as both reach.
+pub(crate) fn copy(s: &[u8], out: &mut [u8])
+    ensures { λ _. ⌜ now (out .exit) ≡ over (take (length (now (out .entry))) (now (s .entry))) (now (out .entry)) ⌝ }
+{
+    let mut i = 0;
+    while i < s.len() {
+        if i >= out.len() {
+            return;
+        }
+        out[i] = s[i];
+        i += 1;
+    }
+}
+
+// A log id, with zeros after it.
+pub(crate) fn id_of(s: &[u8]) -> [u8; 127]
+    ensures { λ r. ⌜ r ≡ over (take 127 (now (s .entry))) (replicate 127 0) ⌝ }
+{
+    let mut a = no_id();
+    copy(s, &mut a);
+    a
+}
+
+// A root, with zeros after it where it is shorter.
+pub(crate) fn root_of(s: &[u8]) -> [u8; 32]
+    ensures { λ r. ⌜ r ≡ over (take 32 (now (s .entry))) (replicate 32 0) ⌝ }
+{
+    let mut a = no_root();
+    copy(s, &mut a);
+    a
+}
+
+pub(crate) fn equal(a: &[u8], b: &[u8]) -> bool
+    ensures { λ r. ⌜ r ≡ same (now (a .entry)) (now (b .entry)) ⌝ }
+{
+    check::same(a, b)
+}
+
+// Whether a record's log id is this one.
+pub(crate) fn same_log<'a>(r: Record, id: &'a [u8]) -> bool
+    ensures { λ b. ⌜ b ≡ same (idOf r) (now (id .entry)) ⌝ }
+{
+    let n = r.idlen;
+    let own = r.id;
+    if 127 < n {
+        return equal(&own, id);
+    }
+    equal(&own[..n], id)
+}
+
+// Whether a size is the record's, and the root another.
+pub(crate) fn other_root<'a>(r: Record, size: u64, root: &'a [u8]) -> bool
+    ensures { λ b. ⌜ b ≡ (eqb size (r .size) && not (same (now (root .entry)) (r .root))) ⌝ }
+{
+    let own = r.root;
+    if size != r.size {
+        return false;
+    }
+    !equal(root, &own)
+}

@@ -1,0 +1,206 @@
+// The dispute about two pages that were accepted at one place.
+use super::heads::head_bytes;
+use super::heads::size_of;
+use super::bytes::copy;
+use super::bytes::equal;
+use super::bytes::root_of;
+use carry::compare::Compared;
+use carry::compare::compare;
+use carry::forward::Carried;
+use carry::forward::carry;
+use hash::Digest;
+use tree::verdict::inclusion_verdict;
+ghost use mathlib.Core.Path.{_≡_};
+ghost use mathlib.Core.List.{_∷_};
+ghost use Prim.Native.Nat.{_≤_, _<_};
+ghost use lib.ListN.{length, take};
+ghost use Rattle.hash.specs.Digest.{sha256};
+ghost use Rattle.tree.specs.Verdict.{inclusionVerdict};
+ghost use Rattle.carry.specs.Forward.{carry as carryTo, answer as carriedAs, pathAfter as carriedPath, pairAfter as carriedPair};
+ghost use Rattle.carry.specs.Compare.{compare as compareTo};
+ghost use Rattle.auditor.specs.Heads.{sizeOf, rootOf, pathOf, headBytes, headsOf};
+ghost use Rattle.auditor.specs.Dispute.{longestPath, settled, follow, answer, pairAfter};
+ghost use Rattle.auditor.specs.Dispute as paper;
+
+// What a dispute answers: the pages are the same; two strings of nodes that differ and have one hash were written; the two pages, each with 0x00 before
+// it, differ and have one hash; or the number of a refusal.
+pub enum Settled {
+    Same,
+    Nodes,
+    Pages,
+    Refused(u32),
+}
+
+fn path_buffer() -> [u8; 1024]
+    ensures { λ r. ⌜ length r ≡ 1024 ⌝ }
+{
+    [0; 1024]
+}
+
+// Carries the proof at hand by the first head of a buffer, which has `count` bytes.
+fn over_head(
+    leaf: &[u8],
+    place: u64,
+    m: u64,
+    root: &[u8],
+    path: &[u8],
+    heads: &[u8],
+    count: usize,
+    out: &mut [u8],
+    pair: &mut [u8],
+) -> Carried
+    requires { ⌜ (count ≡ headBytes (now heads)) × (0 < count) × (length (now out) ≡ longestPath) ⌝ }
+    ensures { λ r. ⌜ r ≡ carriedAs (carryTo sha256 (now (leaf .entry)) place m (sizeOf (now (heads .entry))) (now (root .entry)) (rootOf (now (heads .entry))) (now (path .entry)) (pathOf (now (heads .entry))) longestPath (length (now (pair .entry)))) ⌝ }
+    ensures { λ _. ⌜ now (out .exit) ≡ carriedPath (carryTo sha256 (now (leaf .entry)) place m (sizeOf (now (heads .entry))) (now (root .entry)) (rootOf (now (heads .entry))) (now (path .entry)) (pathOf (now (heads .entry))) longestPath (length (now (pair .entry)))) (now (out .entry)) ⌝ }
+    ensures { λ _. ⌜ now (pair .exit) ≡ carriedPair (carryTo sha256 (now (leaf .entry)) place m (sizeOf (now (heads .entry))) (now (root .entry)) (rootOf (now (heads .entry))) (now (path .entry)) (pathOf (now (heads .entry))) longestPath (length (now (pair .entry)))) (now (pair .entry)) ⌝ }
+{
+    let n = size_of(heads);
+    carry(
+        leaf,
+        place,
+        m,
+        n,
+        root,
+        &heads[8..40],
+        path,
+        &heads[42..count],
+        out,
+        pair,
+    )
+}
+
+// The last step: two proofs under one head, and then the page bytes.
+fn settle(
+    place: u64,
+    size: u64,
+    root: &[u8],
+    page1: &[u8],
+    leaf1: &[u8],
+    path1: &[u8],
+    page2: &[u8],
+    leaf2: &[u8],
+    path2: &[u8],
+    pair: &mut [u8],
+) -> Settled
+    ensures { λ r. ⌜ r ≡ answer (settled (now (page1 .entry)) (now (page2 .entry)) (compareTo sha256 place size (now (root .entry)) (now (leaf1 .entry)) (now (path1 .entry)) (now (leaf2 .entry)) (now (path2 .entry)) (length (now (pair .entry))))) ⌝ }
+    ensures { λ _. ⌜ now (pair .exit) ≡ pairAfter (settled (now (page1 .entry)) (now (page2 .entry)) (compareTo sha256 place size (now (root .entry)) (now (leaf1 .entry)) (now (path1 .entry)) (now (leaf2 .entry)) (now (path2 .entry)) (length (now (pair .entry))))) (now (pair .entry)) ⌝ }
+{
+    let compared = compare(place, size, root, leaf1, path1, leaf2, path2, pair);
+    match compared {
+        Compared::Refused(n) => return Settled::Refused(n),
+        Compared::Collision => return Settled::Nodes,
+        Compared::Same => {
+            if equal(page1, page2) {
+                return Settled::Same;
+            }
+            Settled::Pages
+        }
+    }
+}
+
+// From an accepted proof of the first page: over each head, and then to the end.
+fn work(
+    place: u64,
+    page1: &[u8],
+    one: Digest,
+    path1: &[u8],
+    size: u64,
+    root: &[u8],
+    heads: &[u8],
+    page2: &[u8],
+    two: Digest,
+    path2: &[u8],
+    pair: &mut [u8],
+) -> Settled
+    requires { ⌜ (length (now path1) ≤ longestPath) × (length (now root) ≡ 32) × (one .bytes ≡ sha256 (0 ∷ now page1)) × (two .bytes ≡ sha256 (0 ∷ now page2)) ⌝ }
+    ensures { λ r. ⌜ r ≡ answer (follow sha256 place (now (page1 .entry)) (now (page2 .entry)) (now (path2 .entry)) (length (now (pair .entry))) (headsOf (now (heads .entry))) size (now (root .entry)) (now (path1 .entry))) ⌝ }
+    ensures { λ _. ⌜ now (pair .exit) ≡ pairAfter (follow sha256 place (now (page1 .entry)) (now (page2 .entry)) (now (path2 .entry)) (length (now (pair .entry))) (headsOf (now (heads .entry))) size (now (root .entry)) (now (path1 .entry))) (now (pair .entry)) ⌝ }
+{
+    let leaf1 = one.bytes;
+    let leaf2 = two.bytes;
+    let mut path = path_buffer();
+    copy(path1, &mut path);
+    let mut len = path1.len();
+    let mut held = root_of(root);
+    let mut m = size;
+    let mut at = 0;
+    while at < heads.len() {
+        let rest = &heads[at..];
+        let count = head_bytes(rest);
+        if count == 0 {
+            return Settled::Refused(2);
+        }
+        let mut out = path_buffer();
+        let carried = over_head(
+            &leaf1,
+            place,
+            m,
+            &held,
+            &path[..len],
+            rest,
+            count,
+            &mut out,
+            pair,
+        );
+        match carried {
+            Carried::Refused(n) => return Settled::Refused(n),
+            Carried::Collision => return Settled::Nodes,
+            Carried::Path(n) => {
+                path = out;
+                len = n;
+                m = size_of(rest);
+                held = root_of(&rest[8..40]);
+                at += count;
+            }
+        }
+    }
+    settle(
+        place,
+        m,
+        &held,
+        page1,
+        &leaf1,
+        &path[..len],
+        page2,
+        &leaf2,
+        path2,
+        pair,
+    )
+}
+
+// Two pages at one place, from the arguments of accepted calls alone: the first page, its place and path, the size and root of the head then held, the
+// heads accepted since, and the second page with its path. Order: 1 for either page; the first proof's verdict; over each head 2 where it is cut
+// short, then what carrying refuses; then what comparing refuses. The first collision met ends the work.
+pub fn dispute(
+    page1: &[u8],
+    place: u64,
+    path1: &[u8],
+    size: u64,
+    root: &[u8],
+    heads: &[u8],
+    page2: &[u8],
+    path2: &[u8],
+    pair: &mut [u8],
+) -> Settled
+    ensures { λ r. ⌜ r ≡ answer (paper.dispute sha256 (now (page1 .entry)) place (now (path1 .entry)) size (now (root .entry)) (headsOf (now (heads .entry))) (now (page2 .entry)) (now (path2 .entry)) (length (now (pair .entry)))) ⌝ }
+    ensures { λ _. ⌜ now (pair .exit) ≡ pairAfter (paper.dispute sha256 (now (page1 .entry)) place (now (path1 .entry)) size (now (root .entry)) (headsOf (now (heads .entry))) (now (page2 .entry)) (now (path2 .entry)) (length (now (pair .entry)))) (now (pair .entry)) ⌝ }
+{
+    let first = hash::leaf(page1);
+    if first.number != 0 {
+        return Settled::Refused(first.number);
+    }
+    let second = hash::leaf(page2);
+    if second.number != 0 {
+        return Settled::Refused(second.number);
+    }
+    let one = first.digest;
+    let two = second.digest;
+    let leaf = one.bytes;
+    let verdict = inclusion_verdict(&leaf, place, size, root, path1);
+    if verdict != 0 {
+        return Settled::Refused(verdict);
+    }
+    work(
+        place, page1, one, path1, size, root, heads, page2, two, path2, pair,
+    )
+}

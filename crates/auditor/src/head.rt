@@ -1,0 +1,119 @@
+// Offering a head.
+use crate::Answered;
+use crate::Record;
+use super::bytes::id_of;
+use super::bytes::other_root;
+use super::bytes::root_of;
+use super::bytes::same_log;
+use tree::limits::LARGEST_SIZE;
+use tree::verdict::consistency_verdict;
+ghost use mathlib.Core.Path.{_≡_};
+ghost use lib.ListN.{length};
+ghost use Rattle.hash.specs.Digest.{sha256};
+ghost use Rattle.auditor.specs.Held.{view, idOf};
+ghost use Rattle.auditor.specs.Offer.{outside, first, against, offerNumber, offered};
+
+// Whether no tree has this size.
+fn no_size(size: u64) -> bool
+    ensures { λ r. ⌜ r ≡ outside size ⌝ }
+{
+    if size == 0 {
+        return true;
+    }
+    LARGEST_SIZE < size
+}
+
+// The first head of a record: 6 and 7.
+fn first_number(size: u64, path: &[u8]) -> u32
+    ensures { λ r. ⌜ r ≡ first size (now (path .entry)) ⌝ }
+{
+    if no_size(size) {
+        return 6;
+    }
+    if path.len() == 0 {
+        return 0;
+    }
+    7
+}
+
+// A later head, against the one held: 11, 6, 12, 13, then the consistency verdict.
+fn later_number(
+    r: Record,
+    id: &[u8],
+    timestamp: u64,
+    size: u64,
+    root: &[u8],
+    path: &[u8],
+) -> u32
+    ensures { λ n. ⌜ n ≡ against sha256 (idOf r) (r .timestamp) (r .size) (r .root) (now (id .entry)) timestamp size (now (root .entry)) (now (path .entry)) ⌝ }
+{
+    if !same_log(r, id) {
+        return 11;
+    }
+    if no_size(size) {
+        return 6;
+    }
+    if size < r.size {
+        return 6;
+    }
+    if timestamp < r.timestamp {
+        return 12;
+    }
+    if other_root(r, size, root) {
+        return 13;
+    }
+    let held = r.root;
+    consistency_verdict(r.size, size, &held, root, path)
+}
+
+// The number of an offer.
+fn number(r: Record, id: &[u8], timestamp: u64, size: u64, root: &[u8], path: &[u8]) -> u32
+    ensures { λ n. ⌜ n ≡ offerNumber sha256 (view r) (now (id .entry)) timestamp size (now (root .entry)) (now (path .entry)) ⌝ }
+{
+    if root.len() != 32 {
+        return 5;
+    }
+    if id.len() < 2 {
+        return 5;
+    }
+    if 127 < id.len() {
+        return 5;
+    }
+    if path.len() % 32 != 0 {
+        return 10;
+    }
+    if r.held {
+        return later_number(r, id, timestamp, size, root, path);
+    }
+    first_number(size, path)
+}
+
+// Offers a head with its log id, timestamp, size and root, and the consistency path to it from the head held, which is empty for the first. An accepted
+// head replaces the record; a refusal returns it as it was. Order: 5, 10, 6, 7 for the first; 5, 10, 11, 6, 12, 13, 7, 8 for a later one.
+pub fn offer(
+    r: Record,
+    id: &[u8],
+    timestamp: u64,
+    size: u64,
+    root: &[u8],
+    path: &[u8],
+) -> Answered
+    ensures { λ o. ⌜ o ≡ offered r (now (id .entry)) timestamp size (now (root .entry)) (now (path .entry)) ⌝ }
+{
+    let n = number(r, id, timestamp, size, root, path);
+    if n != 0 {
+        return Answered {
+            number: n,
+            after: r,
+        };
+    }
+    let after = Record {
+        held: true,
+        id: id_of(id),
+        idlen: id.len(),
+        timestamp,
+        size,
+        root: root_of(root),
+    };
+    Answered { number: 0, after }
+}

@@ -1,0 +1,57 @@
+// The auditor of one log: a record that is handed in and handed back by value, offers of heads and calls for pages over it, and the dispute about
+// two pages that were accepted at one place. No function empties a record, and the dispute takes none.
+//
+// head: an offer    page: a call for a page    dispute: two pages at one place    heads: heads joined in a buffer    bytes: a record's bytes
+mod bytes;
+pub mod dispute;
+pub mod head;
+mod heads;
+pub mod page;
+
+ghost use mathlib.Core.Path.{_≡_};
+ghost use Rattle.auditor.specs.Held.{none};
+ghost use Rattle.auditor.specs.Demand.{Demand3, WhateverGiven, TwoAuditors};
+ghost use Rattle.auditor.specs.Claims.{HeldIsAccepted, NeverBack, HonestLog};
+use bytes::no_id;
+use bytes::no_root;
+
+// Nothing, where `held` is false; else the head that was accepted last. Its log id is the first `idlen` bytes of `id`.
+pub struct Record {
+    pub held: bool,
+    pub id: [u8; 127],
+    pub idlen: usize,
+    pub timestamp: u64,
+    pub size: u64,
+    pub root: [u8; 32],
+}
+
+// What a call answers: 0 or the number of its refusal, and the record after it.
+pub struct Answered {
+    pub number: u32,
+    pub after: Record,
+}
+
+// The record that holds nothing.
+pub fn empty() -> Record
+    ensures { λ r. ⌜ r ≡ none ⌝ }
+{
+    Record {
+        held: false,
+        id: no_id(),
+        idlen: 0,
+        timestamp: 0,
+        size: 0,
+        root: no_root(),
+    }
+}
+
+// What is proved of every list of calls, as the third demand asks. It does nothing.
+pub fn claims()
+    ensures demand3 { λ _. ⌜ Demand3 ⌝ }
+    ensures whatever_given { λ _. ⌜ WhateverGiven ⌝ }
+    ensures two_auditors { λ _. ⌜ TwoAuditors ⌝ }
+    ensures held_is_accepted { λ _. ⌜ HeldIsAccepted ⌝ }
+    ensures never_back { λ _. ⌜ NeverBack ⌝ }
+    ensures honest_log { λ _. ⌜ HonestLog ⌝ }
+{
+}

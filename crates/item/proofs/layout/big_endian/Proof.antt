@@ -1,0 +1,18 @@
+-- `item::layout::big_endian` meets its contract. Assumes nothing.
+use mathlib.Core.Path.{_≡_, sym, ap, _∙_}
+use native.Mathlib.Omega.{arith}
+use lib.ListN.{length, take}
+use lib.Seq.{take-length, take-all}
+use denote.Ref.{now}
+use borrow.Author.Needs.{needs}
+use Rattle.item.specs.Layout.{unbe}
+use Rattle.item.proofs.layout.big_endian.Statement.{statement}
+use Rattle.item.proofs.layout.big_endian.Tie as tie
+
+returns : tie.Need-returns
+returns c =
+    let s = now (c .before .before .before .args .s) in
+    c .number .ensures .0 ∙ ap unbe (take-length s ∙ sym (take-all 8 s (omega arith)))
+
+pub big-endian-spec : {M : Type 1} → statement M
+big-endian-spec = tie.close (tie.spec (λ c κs. search needs) returns (λ c κs. search needs) (λ c. search needs))
