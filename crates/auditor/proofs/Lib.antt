@@ -1,0 +1,8 @@
+-- The laws, one subject a file, each from those above it; crates above cite them. The proofs of the functions are in the folders.
+pub mod Copying
+pub mod Offering
+pub mod Asking
+pub mod Reading
+pub mod Telling
+pub mod Following
+pub mod Disputing

@@ -3,7 +3,8 @@ use crate::Record;
 ghost use mathlib.Core.Path.{_≡_};
 ghost use mathlib.Core.Bool.{not, _&&_};
 ghost use lib.Dec.{eqb};
-ghost use lib.ListN.{length, take, replicate};
+ghost use Prim.Native.Nat.{_≤_};
+ghost use lib.ListN.{length, replicate};
 ghost use Rattle.tree.specs.Build.{over};
 ghost use Rattle.tree.specs.Joined.{same};
 ghost use Rattle.auditor.specs.Held.{idOf};
@@ -20,15 +21,13 @@ pub(crate) fn no_root() -> [u8; 32]
     [0; 32]
 }
 
-// Copies a slice to the start of a buffer, as far as both reach.
+// Copies a slice to the start of a buffer.
 pub(crate) fn copy(s: &[u8], out: &mut [u8])
-    ensures { λ _. ⌜ now (out .exit) ≡ over (take (length (now (out .entry))) (now (s .entry))) (now (out .entry)) ⌝ }
+    requires { ⌜ length (now s) ≤ length (now out) ⌝ }
+    ensures { λ _. ⌜ now (out .exit) ≡ over (now (s .entry)) (now (out .entry)) ⌝ }
 {
     let mut i = 0;
     while i < s.len() {
-        if i >= out.len() {
-            return;
-        }
         out[i] = s[i];
         i += 1;
     }
@@ -36,16 +35,18 @@ pub(crate) fn copy(s: &[u8], out: &mut [u8])
 
 // A log id, with zeros after it.
 pub(crate) fn id_of(s: &[u8]) -> [u8; 127]
-    ensures { λ r. ⌜ r ≡ over (take 127 (now (s .entry))) (replicate 127 0) ⌝ }
+    requires { ⌜ length (now s) ≤ 127 ⌝ }
+    ensures { λ r. ⌜ r ≡ over (now (s .entry)) (replicate 127 0) ⌝ }
 {
     let mut a = no_id();
     copy(s, &mut a);
     a
 }
 
-// A root, with zeros after it where it is shorter.
+// A root by value.
 pub(crate) fn root_of(s: &[u8]) -> [u8; 32]
-    ensures { λ r. ⌜ r ≡ over (take 32 (now (s .entry))) (replicate 32 0) ⌝ }
+    requires { ⌜ length (now s) ≡ 32 ⌝ }
+    ensures { λ r. ⌜ r ≡ now (s .entry) ⌝ }
 {
     let mut a = no_root();
     copy(s, &mut a);

@@ -12,13 +12,13 @@ use hash::Digest;
 use tree::verdict::inclusion_verdict;
 ghost use mathlib.Core.Path.{_≡_};
 ghost use mathlib.Core.List.{_∷_};
-ghost use Prim.Native.Nat.{_≤_, _<_};
+ghost use Prim.Native.Nat.{_-_, _*_, _≤_};
 ghost use lib.ListN.{length, take};
 ghost use Rattle.hash.specs.Digest.{sha256};
 ghost use Rattle.tree.specs.Verdict.{inclusionVerdict};
 ghost use Rattle.carry.specs.Forward.{carry as carryTo, answer as carriedAs, pathAfter as carriedPath, pairAfter as carriedPair};
 ghost use Rattle.carry.specs.Compare.{compare as compareTo};
-ghost use Rattle.auditor.specs.Heads.{sizeOf, rootOf, pathOf, headBytes, headsOf};
+ghost use Rattle.auditor.specs.Heads.{sizeOf, rootOf, countOf, pathOf, headsOf};
 ghost use Rattle.auditor.specs.Dispute.{longestPath, settled, follow, answer, pairAfter};
 ghost use Rattle.auditor.specs.Dispute as paper;
 
@@ -49,7 +49,7 @@ fn over_head(
     out: &mut [u8],
     pair: &mut [u8],
 ) -> Carried
-    requires { ⌜ (count ≡ headBytes (now heads)) × (0 < count) × (length (now out) ≡ longestPath) ⌝ }
+    requires { ⌜ (42 ≤ count) × (count ≤ length (now heads)) × (count - 42 ≡ 32 * countOf (now heads)) × (length (now out) ≡ longestPath) ⌝ }
     ensures { λ r. ⌜ r ≡ carriedAs (carryTo sha256 (now (leaf .entry)) place m (sizeOf (now (heads .entry))) (now (root .entry)) (rootOf (now (heads .entry))) (now (path .entry)) (pathOf (now (heads .entry))) longestPath (length (now (pair .entry)))) ⌝ }
     ensures { λ _. ⌜ now (out .exit) ≡ carriedPath (carryTo sha256 (now (leaf .entry)) place m (sizeOf (now (heads .entry))) (now (root .entry)) (rootOf (now (heads .entry))) (now (path .entry)) (pathOf (now (heads .entry))) longestPath (length (now (pair .entry)))) (now (out .entry)) ⌝ }
     ensures { λ _. ⌜ now (pair .exit) ≡ carriedPair (carryTo sha256 (now (leaf .entry)) place m (sizeOf (now (heads .entry))) (now (root .entry)) (rootOf (now (heads .entry))) (now (path .entry)) (pathOf (now (heads .entry))) longestPath (length (now (pair .entry)))) (now (pair .entry)) ⌝ }

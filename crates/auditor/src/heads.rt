@@ -23,7 +23,7 @@ fn count_of(s: &[u8]) -> u64
 
 // How many bytes the first head has, or 0 where it is cut short.
 pub(crate) fn head_bytes(s: &[u8]) -> usize
-    ensures { λ r. ⌜ (r ≡ headBytes (now (s .entry))) × (r ≤ length (now (s .entry))) ⌝ }
+    ensures { λ r. ⌜ r ≡ headBytes (now (s .entry)) ⌝ }
 {
     if s.len() < 42 {
         return 0;

@@ -217,7 +217,7 @@ pub(crate) fn read_field(s: &[u8], at: usize, f: Field) -> FieldRead
 
 // The number in the first 8 bytes, or in all where they are fewer, big-endian.
 pub fn big_endian(s: &[u8]) -> u64
-    ensures { λ r. ⌜ r ≡ unbe (take 8 (now (s .entry))) ⌝ }
+    ensures { λ r. ⌜ (r ≡ unbe (take 8 (now (s .entry)))) × (r < 256 ^ length (take 8 (now (s .entry)))) ⌝ }
 {
     if s.len() < 8 {
         return number(s, 0, s.len());

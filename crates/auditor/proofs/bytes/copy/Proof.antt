@@ -1,53 +1,31 @@
+-- `auditor::bytes::copy` meets its contract. Assumes nothing.
+use mathlib.Core.Path.{_≡_, refl, ap, _∙_}
+use mathlib.Core.List.{List}
+use Prim.Native.Nat.{ℕ, _-_, _≤_}
+use native.Mathlib.Omega.{arith}
+use lib.ListN.{length, set, getD, length-set}
+use Rattle.auditor.proofs.Copying.{front, front-more, front-all}
 use Rattle.auditor.proofs.bytes.copy.Statement.{statement}
 use Rattle.auditor.proofs.bytes.copy.Tie as tie
-use Rattle.auditor.proofs.bytes.copy.Reads as reads
-use Rattle.auditor.proofs.bytes.copy.Lts as lts
 
 abbrev Inv-loop : tie.InvT-loop
-Inv-loop s out₀ i₀ out i = ?
+Inv-loop s out₀ i₀ out i = (i ≤ length s) × (length out ≡ length out₀) × (out ≡ front out₀ s i)
 
 abbrev μ-loop : tie.MeasureT-loop
-μ-loop s out₀ i₀ out i = ?
+μ-loop s out₀ i₀ out i = length s - i
 
--- src/bytes.rt:28:5
-loop-holds : tie.Need-loop-holds Inv-loop μ-loop
-loop-holds c = ?
-
--- src/bytes.rt:30:13
-same-length : tie.Need-same-length Inv-loop μ-loop
-same-length c = ?
-
--- src/bytes.rt:30:13
-returns : tie.Need-returns Inv-loop μ-loop
-returns c = ?
-
--- src/bytes.rt:32:18
-shared-slice-read-out : tie.Need-shared-slice-read-out Inv-loop μ-loop
-shared-slice-read-out c = ?
-
--- src/bytes.rt:32:9
-slice-write-out : tie.Need-slice-write-out Inv-loop μ-loop
-slice-write-out c = ?
-
--- src/bytes.rt:33:9
-add-i : tie.Need-add-i Inv-loop μ-loop
-add-i c = ?
-
--- src/bytes.rt:28:5
-loop-less : tie.Need-loop-less Inv-loop μ-loop
-loop-less c = ?
-
--- src/bytes.rt:28:5
 loop-again : tie.Need-loop-again Inv-loop μ-loop
-loop-again c = ?
+loop-again c =
+    let l = c .before .before in
+    let s = l .before .args .s .now in
+    let i = l .loop .i in
+    (omega arith, simp length-set (l .loop .inv .1), ap (λ (o : List ℕ). set o i (getD s i 0)) (l .loop .inv .2) ∙ front-more (l .before .args .out .now) s i (omega arith) (omega arith))
 
--- src/bytes.rt:24:1
-same-length-2 : tie.Need-same-length-2 Inv-loop μ-loop
-same-length-2 c = ?
-
--- src/bytes.rt:24:1
-returns-2 : tie.Need-returns-2 Inv-loop μ-loop
-returns-2 c = ?
+returns : tie.Need-returns Inv-loop μ-loop
+returns c =
+    let s = c .before .before .args .s .now in
+    let done : c .before .loop .i ≡ length s = omega arith in
+    c .before .loop .inv .2 ∙ front-all (c .before .before .args .out .now) s _ done
 
 pub copy-spec : {M : Type 1} → statement M
 copy-spec =
@@ -55,13 +33,11 @@ copy-spec =
     (tie.spec
     Inv-loop
     μ-loop
-    loop-holds
-    same-length
-    returns
-    shared-slice-read-out
-    slice-write-out
-    add-i
-    loop-less
+    (λ c. (omega arith, refl, refl))
+    (λ c. omega arith)
+    (λ c. omega arith)
+    (λ c. omega arith)
+    (λ c. omega arith)
     loop-again
-    same-length-2
-    returns-2)
+    (λ c. c .before .loop .inv .1)
+    returns)

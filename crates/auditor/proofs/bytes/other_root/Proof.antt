@@ -1,25 +1,14 @@
+-- `auditor::bytes::other_root` meets its contract. Assumes nothing.
 use borrow.Author.Needs.{needs}
+use borrow.Author.Tests.{eq-eqb, ne-eqb}
 use Rattle.auditor.proofs.bytes.other_root.Statement.{statement}
 use Rattle.auditor.proofs.bytes.other_root.Tie as tie
-use Rattle.auditor.proofs.bytes.other_root.Reads as reads
-use Rattle.auditor.proofs.bytes.other_root.Lts as lts
-use Rattle.auditor.proofs.bytes.equal.Reads as equal-reads
 
--- src/bytes.rt:79:9
 returns : tie.Need-returns
-returns c = ?
+returns c = simp (ne-eqb _ _ (c .if1 .taken))
 
--- src/bytes.rt:81:18
-slice-aggregate-equal : tie.Need-slice-aggregate-equal
-slice-aggregate-equal c = search needs
-
--- src/bytes.rt:81:6
-equal-requires : tie.Need-equal-requires
-equal-requires c κs = search needs
-
--- src/bytes.rt:74:1
 returns-2 : tie.Need-returns-2
-returns-2 c = ?
+returns-2 c = simp (eq-eqb _ _ (c .before .before .if1 .left), ← (c .equal .ensures))
 
 pub other-root-spec : {M : Type 1} → statement M
-other-root-spec = tie.close (tie.spec returns slice-aggregate-equal equal-requires returns-2)
+other-root-spec = tie.close (tie.spec returns (λ c. search needs) (λ c κs. search needs) returns-2)

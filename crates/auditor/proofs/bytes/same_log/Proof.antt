@@ -1,46 +1,37 @@
+-- `auditor::bytes::same_log` meets its contract: a length above 127 takes all of the id. Assumes nothing.
+use mathlib.Core.Path.{_≡_, sym}
+use native.Mathlib.Omega.{arith}
+use lib.ListN.{length, take}
+use lib.Seq.{length-take-le, take-all}
 use borrow.Author.Needs.{needs}
 use Rattle.auditor.proofs.bytes.same_log.Statement.{statement}
 use Rattle.auditor.proofs.bytes.same_log.Tie as tie
-use Rattle.auditor.proofs.bytes.same_log.Reads as reads
-use Rattle.auditor.proofs.bytes.same_log.Lts as lts
-use Rattle.auditor.proofs.bytes.equal.Reads as equal-reads
 
--- src/bytes.rt:68:22
-slice-aggregate-equal : tie.Need-slice-aggregate-equal
-slice-aggregate-equal c = search needs
+whole : (c : tie.After-equal) → length (c .before .before .before .before .before .args .r .id) ≡ 127
+whole c = search needs
 
--- src/bytes.rt:68:9
-equal-requires : tie.Need-equal-requires
-equal-requires c κs = search needs
-
--- src/bytes.rt:68:9
 returns : tie.Need-returns
-returns c = ?
+returns c =
+    let r = c .before .before .before .before .before .args .r in
+    rw (take-all (r .idlen) (r .id) (omega (arith, whole c))) (c .equal .ensures)
 
--- src/bytes.rt:70:11
+part : (c : tie.Else1) → length (c .before .before .before .args .r .id) ≡ 127
+part c = search needs
+
 array-share-prefix-own : tie.Need-array-share-prefix-own
-array-share-prefix-own c = ?
+array-share-prefix-own c = omega (arith, part c)
 
--- src/bytes.rt:70:11
 slice-aggregate-equal-2 : tie.Need-slice-aggregate-equal-2
-slice-aggregate-equal-2 c = ?
-
--- src/bytes.rt:70:5
-equal-requires-2 : tie.Need-equal-requires-2
-equal-requires-2 c κs = search needs
-
--- src/bytes.rt:62:1
-returns-2 : tie.Need-returns-2
-returns-2 c = search needs
+slice-aggregate-equal-2 c = sym (length-take-le _ (c .before .before .before .before .args .r .id) (omega (arith, part (c .before))))
 
 pub same-log-spec : {M : Type 1} → statement M
 same-log-spec =
     tie.close
     (tie.spec
-    slice-aggregate-equal
-    equal-requires
+    (λ c. search needs)
+    (λ c κs. search needs)
     returns
     array-share-prefix-own
     slice-aggregate-equal-2
-    equal-requires-2
-    returns-2)
+    (λ c κs. search needs)
+    (λ c. search needs))

@@ -1,77 +1,53 @@
+-- `auditor::dispute::settle` meets its contract: one law for each answer of the comparison. Assumes nothing.
+use mathlib.Core.Path.{_≡_, sym, _∙_}
+use denote.Ref.{now}
 use borrow.Author.Needs.{needs}
+use Rattle.auditor.proofs.Telling.{compared-refused, compared-collision, compared-same, compared-pages}
 use Rattle.auditor.proofs.dispute.settle.Statement.{statement}
 use Rattle.auditor.proofs.dispute.settle.Tie as tie
-use Rattle.auditor.proofs.dispute.settle.Reads as reads
-use Rattle.auditor.proofs.dispute.settle.Lts as lts
-use Rattle.auditor.proofs.bytes.equal.Reads as equal-reads
-use Rattle.carry.proofs.compare.compare.Reads as compare-reads
 
--- src/dispute.rt:88:9
-compare-requires : tie.Need-compare-requires
-compare-requires c κs = search needs
-
--- src/dispute.rt:90:27
-enum-known-compared : tie.Need-enum-known-compared
-enum-known-compared c = search needs
-
--- src/dispute.rt:90:33
-same-length : tie.Need-same-length
-same-length c = search needs
-
--- src/dispute.rt:90:33
 returns : tie.Need-returns
-returns c = ?
+returns c =
+    let b = c .before .before .before .before .before in
+    let a = b .before .before .before .before .before .before .before .before .before .before .args in
+    let q = compared-refused (now (a .page1)) (now (a .page2)) (now (a .pair)) _ _ (sym (c .before .compared .given .1) ∙ b .compare .ensures .0) in
+    (q .0, b .compare .ensures .1 ∙ q .1)
 
--- src/dispute.rt:91:32
-enum-told : tie.Need-enum-told
-enum-told c = search needs
-
--- src/dispute.rt:91:32
-same-length-2 : tie.Need-same-length-2
-same-length-2 c = search needs
-
--- src/dispute.rt:91:32
 returns-2 : tie.Need-returns-2
-returns-2 c = ?
+returns-2 c =
+    let b = c .before .before .before .before in
+    let a = b .before .before .before .before .before .before .before .before .before .before .args in
+    let q = compared-collision (now (a .page1)) (now (a .page2)) (now (a .pair)) _ (sym (c .enum-told .given .1) ∙ b .compare .ensures .0) in
+    (q .0, b .compare .ensures .1 ∙ q .1)
 
--- src/dispute.rt:93:16
-enum-told-2 : tie.Need-enum-told-2
-enum-told-2 c = search needs
-
--- src/dispute.rt:93:16
-equal-requires : tie.Need-equal-requires
-equal-requires c κs = search needs
-
--- src/dispute.rt:94:17
-same-length-3 : tie.Need-same-length-3
-same-length-3 c = search needs
-
--- src/dispute.rt:94:17
 returns-3 : tie.Need-returns-3
-returns-3 c = ?
+returns-3 c =
+    let b = c .before .before .before .before .before .before in
+    let a = b .before .before .before .before .before .before .before .before .before .before .args in
+    let q = compared-same (now (a .page1)) (now (a .page2)) (now (a .pair)) _ (sym (c .before .before .enum-told2 .given .1) ∙ b .compare .ensures .0) (sym (c .before .equal .ensures) ∙ c .if1 .taken) in
+    (q .0, b .compare .ensures .1 ∙ q .1)
 
--- src/dispute.rt:73:1
-same-length-4 : tie.Need-same-length-4
-same-length-4 c = search needs
-
--- src/dispute.rt:73:1
 returns-4 : tie.Need-returns-4
-returns-4 c = ?
+returns-4 c =
+    let b = c .before .before .before .before .before .before in
+    let a = b .before .before .before .before .before .before .before .before .before .before .args in
+    let q = compared-pages (now (a .page1)) (now (a .page2)) (now (a .pair)) _ (sym (c .before .before .enum-told2 .given .1) ∙ b .compare .ensures .0) (sym (c .before .equal .ensures) ∙ c .if1 .left) in
+    (q .0, b .compare .ensures .1 ∙ q .1)
 
 pub settle-spec : {M : Type 1} → statement M
 settle-spec =
     tie.close
     (tie.spec
-    compare-requires
-    enum-known-compared
-    same-length
+    (λ c κs. search needs)
+    (λ c. search needs)
+    (λ c. search needs)
     returns
-    enum-told
-    same-length-2
+    (λ c. search needs)
+    (λ c. search needs)
     returns-2
-    enum-told-2
-    equal-requires
-    same-length-3
+    (λ c. search needs)
+    (λ c κs. search needs)
+    (λ c. search needs)
     returns-3
-    same-length-4
+    (λ c. search needs)
     returns-4)

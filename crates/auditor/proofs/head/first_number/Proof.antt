@@ -1,25 +1,22 @@
+-- `auditor::head::first_number` meets its contract. Assumes nothing.
+use mathlib.Core.Path.{_≡_, sym, _∙_}
 use borrow.Author.Needs.{needs}
+use borrow.Author.Tests.{eq-eqb, ne-eqb}
+use Rattle.auditor.specs.Offer.{first}
 use Rattle.auditor.proofs.head.first_number.Statement.{statement}
 use Rattle.auditor.proofs.head.first_number.Tie as tie
-use Rattle.auditor.proofs.head.first_number.Reads as reads
-use Rattle.auditor.proofs.head.first_number.Lts as lts
-use Rattle.auditor.proofs.head.no_size.Reads as no-size-reads
 
--- src/head.rt:30:8
-no-size-requires : tie.Need-no-size-requires
-no-size-requires c κs = search needs
-
--- src/head.rt:31:9
 returns : tie.Need-returns
-returns c = ?
+unfolding first
+returns c = simp (sym (c .before .no-size .ensures) ∙ c .if1 .taken)
 
--- src/head.rt:34:9
 returns-2 : tie.Need-returns-2
-returns-2 c = ?
+unfolding first
+returns-2 c = simp (sym (c .before .before .no-size .ensures) ∙ c .before .if1 .left, eq-eqb _ _ (c .if2 .taken))
 
--- src/head.rt:27:1
 returns-3 : tie.Need-returns-3
-returns-3 c = ?
+unfolding first
+returns-3 c = simp (sym (c .before .before .no-size .ensures) ∙ c .before .if1 .left, ne-eqb _ _ (c .if2 .left))
 
 pub first-number-spec : {M : Type 1} → statement M
-first-number-spec = tie.close (tie.spec no-size-requires returns returns-2 returns-3)
+first-number-spec = tie.close (tie.spec (λ c κs. search needs) returns returns-2 returns-3)

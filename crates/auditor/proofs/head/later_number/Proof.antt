@@ -1,69 +1,67 @@
+-- `auditor::head::later_number` meets its contract: each return by the tests that led to it. Assumes nothing.
+use mathlib.Core.Path.{_≡_, sym, _∙_}
 use borrow.Author.Needs.{needs}
+use borrow.Author.Tests.{not-true, not-false, lt-ltb, le-ltb}
+use Rattle.auditor.specs.Offer.{against}
 use Rattle.auditor.proofs.head.later_number.Statement.{statement}
 use Rattle.auditor.proofs.head.later_number.Tie as tie
-use Rattle.auditor.proofs.head.later_number.Reads as reads
-use Rattle.auditor.proofs.head.later_number.Lts as lts
-use Rattle.auditor.proofs.bytes.other_root.Reads as other-root-reads
-use Rattle.auditor.proofs.bytes.same_log.Reads as same-log-reads
-use Rattle.auditor.proofs.head.no_size.Reads as no-size-reads
-use Rattle.tree.proofs.verdict.consistency_verdict.Reads as consistency-verdict-reads
 
--- src/head.rt:50:9
-same-log-requires : tie.Need-same-log-requires
-same-log-requires c κs = search needs
-
--- src/head.rt:51:9
 returns : tie.Need-returns
-returns c = ?
+unfolding against
+returns c = simp (sym (c .before .same-log .ensures) ∙ not-true _ (c .if1 .taken))
 
--- src/head.rt:53:8
-no-size-requires : tie.Need-no-size-requires
-no-size-requires c κs = search needs
-
--- src/head.rt:54:9
 returns-2 : tie.Need-returns-2
-returns-2 c = ?
+unfolding against
+returns-2 c =
+    let b = c .before .before in
+    simp (sym (b .before .same-log .ensures) ∙ not-false _ (b .if1 .left), sym (c .before .no-size .ensures) ∙ c .if2 .taken)
 
--- src/head.rt:57:9
 returns-3 : tie.Need-returns-3
-returns-3 c = ?
+unfolding against
+returns-3 c =
+    let e = c .before .before in
+    let b = e .before .before in
+    simp (sym (b .before .same-log .ensures) ∙ not-false _ (b .if1 .left), sym (e .before .no-size .ensures) ∙ e .if2 .left, lt-ltb _ _ (c .if3 .taken))
 
--- src/head.rt:60:9
 returns-4 : tie.Need-returns-4
-returns-4 c = ?
+unfolding against
+returns-4 c =
+    let d = c .before .before in
+    let e = d .before .before in
+    let b = e .before .before in
+    simp (sym (b .before .same-log .ensures) ∙ not-false _ (b .if1 .left), sym (e .before .no-size .ensures) ∙ e .if2 .left, le-ltb _ _ (d .if3 .left), lt-ltb _ _ (c .if4 .taken))
 
--- src/head.rt:62:8
-other-root-requires : tie.Need-other-root-requires
-other-root-requires c κs = search needs
-
--- src/head.rt:63:9
 returns-5 : tie.Need-returns-5
-returns-5 c = ?
+unfolding against
+returns-5 c =
+    let f = c .before .before in
+    let d = f .before .before in
+    let e = d .before .before in
+    let b = e .before .before in
+    simp (sym (b .before .same-log .ensures) ∙ not-false _ (b .if1 .left), sym (e .before .no-size .ensures) ∙ e .if2 .left, le-ltb _ _ (d .if3 .left), le-ltb _ _ (f .if4 .left), sym (c .before .other-root .ensures) ∙ c .if5 .taken)
 
--- src/head.rt:66:39
-slice-aggregate-consistency-verdict : tie.Need-slice-aggregate-consistency-verdict
-slice-aggregate-consistency-verdict c = search needs
-
--- src/head.rt:66:5
-consistency-verdict-requires : tie.Need-consistency-verdict-requires
-consistency-verdict-requires c κs = search needs
-
--- src/head.rt:40:1
 returns-6 : tie.Need-returns-6
-returns-6 c = ?
+unfolding against
+returns-6 c =
+    let g = c .before .before .before in
+    let f = g .before .before in
+    let d = f .before .before in
+    let e = d .before .before in
+    let b = e .before .before in
+    simp (sym (b .before .same-log .ensures) ∙ not-false _ (b .if1 .left), sym (e .before .no-size .ensures) ∙ e .if2 .left, le-ltb _ _ (d .if3 .left), le-ltb _ _ (f .if4 .left), sym (g .before .other-root .ensures) ∙ g .if5 .left, c .consistency-verdict .ensures)
 
 pub later-number-spec : {M : Type 1} → statement M
 later-number-spec =
     tie.close
     (tie.spec
-    same-log-requires
+    (λ c κs. search needs)
     returns
-    no-size-requires
+    (λ c κs. search needs)
     returns-2
     returns-3
     returns-4
-    other-root-requires
+    (λ c κs. search needs)
     returns-5
-    slice-aggregate-consistency-verdict
-    consistency-verdict-requires
+    (λ c. search needs)
+    (λ c κs. search needs)
     returns-6)

@@ -1,52 +1,46 @@
+-- `auditor::head::number` meets its contract: each return by the tests that led to it. Assumes nothing.
+use mathlib.Core.Path.{_≡_, sym, _∙_}
+use denote.Ref.{now}
 use borrow.Author.Needs.{needs}
+use borrow.Author.Tests.{eq-eqb, ne-eqb, lt-ltb, le-ltb}
+use Rattle.hash.specs.Digest.{sha256}
+use Rattle.auditor.specs.Held.{view}
+use Rattle.auditor.specs.Offer.{byRecord, offerNumber}
+use Rattle.auditor.proofs.Offering.{view-held, view-empty, passes}
 use Rattle.auditor.proofs.head.number.Statement.{statement}
 use Rattle.auditor.proofs.head.number.Tie as tie
-use Rattle.auditor.proofs.head.number.Reads as reads
-use Rattle.auditor.proofs.head.number.Lts as lts
-use Rattle.auditor.proofs.head.first_number.Reads as first-number-reads
-use Rattle.auditor.proofs.head.later_number.Reads as later-number-reads
 
--- src/head.rt:74:9
 returns : tie.Need-returns
-returns c = ?
+unfolding offerNumber
+returns c = simp (ne-eqb _ _ (c .if1 .taken))
 
--- src/head.rt:77:9
 returns-2 : tie.Need-returns-2
-returns-2 c = ?
+unfolding offerNumber
+returns-2 c = simp (eq-eqb _ _ (c .before .if1 .left), lt-ltb _ _ (c .if2 .taken))
 
--- src/head.rt:80:9
 returns-3 : tie.Need-returns-3
-returns-3 c = ?
+unfolding offerNumber
+returns-3 c = simp (eq-eqb _ _ (c .before .before .if1 .left), le-ltb _ _ (c .before .if2 .left), lt-ltb _ _ (c .if3 .taken))
 
--- src/head.rt:83:9
 returns-4 : tie.Need-returns-4
-returns-4 c = ?
+unfolding offerNumber
+returns-4 c = simp (eq-eqb _ _ (c .before .before .before .if1 .left), le-ltb _ _ (c .before .before .if2 .left), le-ltb _ _ (c .before .if3 .left), ne-eqb _ _ (c .if4 .taken))
 
--- src/head.rt:86:9
-later-number-requires : tie.Need-later-number-requires
-later-number-requires c κs = search needs
-
--- src/head.rt:86:9
 returns-5 : tie.Need-returns-5
-returns-5 c = ?
+unfolding byRecord
+returns-5 c =
+    let a = c .before .before .before .before .before .before .before .before .before .args in
+    let b = c .before .before in
+    c .later-number .ensures ∙ sym (passes sha256 (view (a .r)) (now (a .id)) (a .timestamp) (a .size) (now (a .root)) (now (a .path)) (b .before .before .before .if1 .left) (b .before .before .if2 .left) (b .before .if3 .left) (b .if4 .left) ∙ rw (view-held (a .r) (c .before .if5 .taken)))
 
--- src/head.rt:88:5
-first-number-requires : tie.Need-first-number-requires
-first-number-requires c κs = search needs
-
--- src/head.rt:70:1
 returns-6 : tie.Need-returns-6
-returns-6 c = ?
+unfolding byRecord
+returns-6 c =
+    let a = c .before .before .before .before .before .before .before .before .before .args in
+    let b = c .before .before in
+    c .first-number .ensures ∙ sym (passes sha256 (view (a .r)) (now (a .id)) (a .timestamp) (a .size) (now (a .root)) (now (a .path)) (b .before .before .before .if1 .left) (b .before .before .if2 .left) (b .before .if3 .left) (b .if4 .left) ∙ rw (view-empty (a .r) (c .before .if5 .left)))
 
 pub number-spec : {M : Type 1} → statement M
 number-spec =
     tie.close
-    (tie.spec
-    returns
-    returns-2
-    returns-3
-    returns-4
-    later-number-requires
-    returns-5
-    first-number-requires
-    returns-6)
+    (tie.spec returns returns-2 returns-3 returns-4 (λ c κs. search needs) returns-5 (λ c κs. search needs) returns-6)

@@ -1,31 +1,21 @@
+-- `auditor::heads::count_of` meets its contract. Assumes nothing.
+use mathlib.Core.Path.{_≡_, sym, ap, _∙_}
+use Prim.Native.Nat.{ℕ, _<_, _^_}
+use native.Mathlib.Omega.{arith}
+use lib.ListN.{length, take, drop, length-drop}
+use lib.Seq.{length-take-le, take-all}
+use denote.Ref.{now}
 use borrow.Author.Needs.{needs}
+use Rattle.item.specs.Layout.{unbe}
 use Rattle.auditor.proofs.heads.count_of.Statement.{statement}
 use Rattle.auditor.proofs.heads.count_of.Tie as tie
-use Rattle.auditor.proofs.heads.count_of.Reads as reads
-use Rattle.auditor.proofs.heads.count_of.Lts as lts
-use Rattle.item.proofs.big_endian.Reads as big-endian-reads
 
--- src/heads.rt:21:22
-sub-big-endian : tie.Need-sub-big-endian
-sub-big-endian c = search needs
-
--- src/heads.rt:21:22
-part-big-endian-start : tie.Need-part-big-endian-start
-part-big-endian-start c = search needs
-
--- src/heads.rt:21:22
-part-big-endian-end : tie.Need-part-big-endian-end
-part-big-endian-end c = search needs
-
--- src/heads.rt:21:5
-big-endian-requires : tie.Need-big-endian-requires
-big-endian-requires c κs = search needs
-
--- src/heads.rt:17:1
 returns : tie.Need-returns
-returns c = ?
+returns c =
+    let s = now (c .before .before .before .args .s) in
+    let l : length (take 2 (drop 40 s)) ≡ 2 = length-take-le 2 (drop 40 s) (simp length-drop (omega (arith, c .before .before .before .pre))) in
+    let e : take 8 (take 2 (drop 40 s)) ≡ take 2 (drop 40 s) = take-all 8 (take 2 (drop 40 s)) (omega (arith, l)) in
+    rw (e, l) at (c .big-endian .ensures)
 
 pub count-of-spec : {M : Type 1} → statement M
-count-of-spec =
-    tie.close
-    (tie.spec sub-big-endian part-big-endian-start part-big-endian-end big-endian-requires returns)
+count-of-spec = tie.close (tie.spec (λ c. search needs) (λ c. search needs) (λ c. search needs) (λ c κs. search needs) returns)

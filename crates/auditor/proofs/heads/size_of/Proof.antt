@@ -1,21 +1,19 @@
+-- `auditor::heads::size_of` meets its contract. Assumes nothing.
+use mathlib.Core.Path.{_≡_, sym, ap, _∙_}
+use native.Mathlib.Omega.{arith}
+use lib.ListN.{length, take}
+use lib.Seq.{length-take-le, take-take}
+use denote.Ref.{now}
 use borrow.Author.Needs.{needs}
+use Rattle.item.specs.Layout.{unbe}
 use Rattle.auditor.proofs.heads.size_of.Statement.{statement}
 use Rattle.auditor.proofs.heads.size_of.Tie as tie
-use Rattle.auditor.proofs.heads.size_of.Reads as reads
-use Rattle.auditor.proofs.heads.size_of.Lts as lts
-use Rattle.item.proofs.big_endian.Reads as big-endian-reads
 
--- src/heads.rt:13:22
 slice-aggregate-big-endian : tie.Need-slice-aggregate-big-endian
-slice-aggregate-big-endian c = ?
+slice-aggregate-big-endian c = sym (length-take-le 8 (now (c .before .before .args .s)) (omega (arith, c .before .before .pre)))
 
--- src/heads.rt:13:5
-big-endian-requires : tie.Need-big-endian-requires
-big-endian-requires c κs = search needs
-
--- src/heads.rt:9:1
 returns : tie.Need-returns
-returns c = ?
+returns c = c .big-endian .ensures .0 ∙ ap unbe (take-take 8 8 (now (c .before .before .before .args .s)) (omega arith))
 
 pub size-of-spec : {M : Type 1} → statement M
-size-of-spec = tie.close (tie.spec slice-aggregate-big-endian big-endian-requires returns)
+size-of-spec = tie.close (tie.spec slice-aggregate-big-endian (λ c κs. search needs) returns)

@@ -1,47 +1,32 @@
+-- `auditor::page::number` meets its contract. Assumes nothing.
+use denote.Ref.{now}
 use borrow.Author.Needs.{needs}
+use Rattle.auditor.specs.Held.{view}
+use Rattle.auditor.specs.Page.{pageNumber}
+use Rattle.auditor.proofs.Asking.{refused-1, taken-0}
 use Rattle.auditor.proofs.page.number.Statement.{statement}
 use Rattle.auditor.proofs.page.number.Tie as tie
-use Rattle.auditor.proofs.page.number.Reads as reads
-use Rattle.auditor.proofs.page.number.Lts as lts
-use Rattle.hash.proofs.leaf.Reads as leaf-reads
-use Rattle.tree.proofs.verdict.inclusion_verdict.Reads as inclusion-verdict-reads
 
--- src/page.rt:14:13
-leaf-requires : tie.Need-leaf-requires
-leaf-requires c κs = search needs
-
--- src/page.rt:16:13
 returns : tie.Need-returns
-returns c = ?
+unfolding pageNumber view
+returns c =
+    let a = c .before .before .before .before .before .before .args in
+    let e = refused-1 (now (a .page)) _ (c .before .before .leaf .ensures .0) (c .if2 .taken) in
+    simp (c .before .before .before .if1 .taken, e .0, e .1)
 
--- src/page.rt:20:34
-slice-aggregate-inclusion-verdict : tie.Need-slice-aggregate-inclusion-verdict
-slice-aggregate-inclusion-verdict c = search needs
-
--- src/page.rt:20:53
-slice-aggregate-inclusion-verdict-2 : tie.Need-slice-aggregate-inclusion-verdict-2
-slice-aggregate-inclusion-verdict-2 c = search needs
-
--- src/page.rt:20:9
-inclusion-verdict-requires : tie.Need-inclusion-verdict-requires
-inclusion-verdict-requires c κs = search needs
-
--- src/page.rt:20:9
 returns-2 : tie.Need-returns-2
-returns-2 c = ?
+unfolding pageNumber view
+returns-2 c =
+    let b = c .before .before .before .before .before in
+    let a = b .before .before .before .before .before .before .args in
+    let e = taken-0 (now (a .page)) _ _ (b .before .before .leaf .ensures .0) (b .if2 .left) (b .before .before .leaf .ensures .1) in
+    simp (b .before .before .before .if1 .taken, e .0, ← (e .1), c .inclusion-verdict .ensures)
 
--- src/page.rt:10:1
 returns-3 : tie.Need-returns-3
-returns-3 c = ?
+unfolding pageNumber view
+returns-3 c = simp (c .if1 .left)
 
 pub number-spec : {M : Type 1} → statement M
 number-spec =
     tie.close
-    (tie.spec
-    leaf-requires
-    returns
-    slice-aggregate-inclusion-verdict
-    slice-aggregate-inclusion-verdict-2
-    inclusion-verdict-requires
-    returns-2
-    returns-3)
+    (tie.spec (λ c κs. search needs) returns (λ c. search needs) (λ c. search needs) (λ c κs. search needs) returns-2 returns-3)

@@ -1,0 +1,86 @@
+-- The number of an offer, and what an accepted one has passed, over any hash H. Assumes nothing.
+use mathlib.Core.Path.{_≡_, refl, sym, ap, _∙_}
+use mathlib.Core.Bool.{false≢true, Bool, true, false, cond, not, _&&_, _||_}
+use mathlib.Core.List.{List}
+use Prim.Native.Nat.{ℕ, zero, suc, _%_, _≤_, _<_}
+use native.Mathlib.Omega.{arith}
+use lib.Dec.{ltb, eqb}
+use lib.ListN.{length, replicate}
+use borrow.Author.Tests.{eq-eqb, le-ltb, ltb-false, eqb-true, not-false}
+use Rattle.hash.specs.Digest.{sha256}
+use Rattle.tree.specs.Joined.{same}
+use Rattle.tree.specs.Build.{over}
+use Rattle.tree.specs.Verdict.{consistencyVerdict}
+use Rattle.tree.proofs.Accepting.{pass}
+use Rattle.tree.proofs.Joining.{same-true}
+use Rattle.auditor.specs.declared.Record.{Record}
+use Rattle.auditor.specs.declared.Answered.{Answered}
+use Rattle.auditor.specs.Held.{Held, empty, head, idOf, view, holding}
+use Rattle.auditor.specs.Offer.{outside, against, byRecord, offerNumber, keptRecord, offered}
+
+-- what a record stands for
+pub view-held : (r : Record) → r .held ≡ true → view r ≡ head (idOf r) (r .timestamp) (r .size) (r .root)
+unfolding view
+view-held r e = rw e
+
+pub view-empty : (r : Record) → r .held ≡ false → view r ≡ empty
+unfolding view
+view-empty r e = rw e
+
+or-false : (a b : Bool) → (a || b) ≡ false → (a ≡ false) × (b ≡ false)
+or-false false b e = (refl, e)
+or-false true b e = absurd (false≢true (sym e))
+
+module _ (H : List ℕ → List ℕ) (held : Held) (id : List ℕ) (time size : ℕ) (root path : List ℕ) where
+  -- 5 and 10 come before what the record decides
+  pub passes : length root ≡ 32 → 2 ≤ length id → length id ≤ 127 → length path % 32 ≡ 0 → offerNumber H held id time size root path ≡ byRecord H held id time size root path
+  unfolding offerNumber
+  passes a b c d = simp (eq-eqb _ _ a, le-ltb _ _ b, le-ltb _ _ c, eq-eqb _ _ d)
+
+  pub record Passed : Type 0 where
+    pub root-32 : length root ≡ 32
+    pub id-least : 2 ≤ length id
+    pub id-most : length id ≤ 127
+    pub path-whole : length path % 32 ≡ 0
+    pub by-record : byRecord H held id time size root path ≡ 0
+
+  pub passed : offerNumber H held id time size root path ≡ 0 → Passed
+  unfolding offerNumber
+  passed e =
+      let a = pass (not (eqb (length root) 32)) 4 _ e in
+      let b = pass (ltb (length id) 2 || ltb 127 (length id)) 4 _ (a .1) in
+      let c = pass (not (eqb (length path % 32) 0)) 9 _ (b .1) in
+      let d = or-false (ltb (length id) 2) (ltb 127 (length id)) (b .0) in
+      record { root-32 = eqb-true _ _ (not-false _ (a .0)); id-least = ltb-false _ _ (d .0); id-most = ltb-false _ _ (d .1); path-whole = eqb-true _ _ (not-false _ (c .0)); by-record = c .1 }
+
+module _ (H : List ℕ → List ℕ) (id₀ : List ℕ) (time₀ size₀ : ℕ) (root₀ id : List ℕ) (time size : ℕ) (root path : List ℕ) where
+  -- a later head has the log id held, no smaller size, no earlier timestamp, and the verdict accepts its path
+  pub record Later : Type 0 where
+    pub one-log : id₀ ≡ id
+    pub no-smaller : size₀ ≤ size
+    pub no-earlier : time₀ ≤ time
+    pub consistent : consistencyVerdict H size₀ size root₀ root path ≡ 0
+
+  pub later : against H id₀ time₀ size₀ root₀ id time size root path ≡ 0 → Later
+  unfolding against
+  later e =
+      let a = pass (not (same id₀ id)) 10 _ e in
+      let b = pass (outside size || ltb size size₀) 5 _ (a .1) in
+      let c = pass (ltb time time₀) 11 _ (b .1) in
+      let d = pass (eqb size size₀ && not (same root root₀)) 12 _ (c .1) in
+      record { one-log = same-true _ _ (not-false _ (a .0)); no-smaller = ltb-false _ _ (or-false (outside size) (ltb size size₀) (b .0) .1); no-earlier = ltb-false _ _ (c .0); consistent = d .1 }
+
+-- the answer of an offer with its number n
+module _ (r : Record) (id : List ℕ) (time size : ℕ) (root path : List ℕ) (n : ℕ) (e : n ≡ offerNumber sha256 (view r) id time size root path) where
+  pub tells-refused : (n ≡ 0 → ⊥) → record { number = n; after = r } ≡ offered r id time size root path
+  unfolding offered keptRecord
+  tells-refused z = go n z e
+    where
+      go : (m : ℕ) → (m ≡ 0 → ⊥) → m ≡ offerNumber sha256 (view r) id time size root path → record { number = m; after = r } ≡ offered r id time size root path
+      go zero z f = absurd (z refl)
+      go (suc m) z f = ap (λ (k : ℕ). record { number = k; after = keptRecord r id time size root k }) f
+
+  pub tells-accepted : (a b : List ℕ) (l : ℕ) → n ≡ 0 → a ≡ over id (replicate 127 0) → b ≡ root → l ≡ length id →
+      record { number = 0; after = record { held = true; id = a; idlen = l; timestamp = time; size = size; root = b } } ≡ offered r id time size root path
+  unfolding offered keptRecord holding
+  tells-accepted a b l z f g h = rw (f, g, h) (ap (λ (k : ℕ). record { number = k; after = keptRecord r id time size root k }) (sym z ∙ e))
