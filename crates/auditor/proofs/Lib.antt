@@ -6,3 +6,7 @@ pub mod Reading
 pub mod Telling
 pub mod Following
 pub mod Disputing
+pub mod Holding
+pub mod Settling
+pub mod Serving
+pub mod Every

@@ -53,22 +53,26 @@ module _ (H : List ℕ → List ℕ) (held : Held) (id : List ℕ) (time size : 
       let d = or-false (ltb (length id) 2) (ltb 127 (length id)) (b .0) in
       record { root-32 = eqb-true _ _ (not-false _ (a .0)); id-least = ltb-false _ _ (d .0); id-most = ltb-false _ _ (d .1); path-whole = eqb-true _ _ (not-false _ (c .0)); by-record = c .1 }
 
-module _ (H : List ℕ → List ℕ) (id₀ : List ℕ) (time₀ size₀ : ℕ) (root₀ id : List ℕ) (time size : ℕ) (root path : List ℕ) where
-  -- a later head has the log id held, no smaller size, no earlier timestamp, and the verdict accepts its path
-  pub record Later : Type 0 where
-    pub one-log : id₀ ≡ id
-    pub no-smaller : size₀ ≤ size
-    pub no-earlier : time₀ ≤ time
-    pub consistent : consistencyVerdict H size₀ size root₀ root path ≡ 0
+-- what an accepted head has passed, over a record that holds one: the log id held, no smaller size, no earlier timestamp, and the verdict
+pub record Taken (H : List ℕ → List ℕ) (id₀ : List ℕ) (time₀ size₀ : ℕ) (root₀ id : List ℕ) (time size : ℕ) (root path : List ℕ) : Type 0 where
+  pub one-log : id₀ ≡ id
+  pub no-smaller : size₀ ≤ size
+  pub no-earlier : time₀ ≤ time
+  pub consistent : consistencyVerdict H size₀ size root₀ root path ≡ 0
 
-  pub later : against H id₀ time₀ size₀ root₀ id time size root path ≡ 0 → Later
-  unfolding against
-  later e =
-      let a = pass (not (same id₀ id)) 10 _ e in
-      let b = pass (outside size || ltb size size₀) 5 _ (a .1) in
-      let c = pass (ltb time time₀) 11 _ (b .1) in
-      let d = pass (eqb size size₀ && not (same root root₀)) 12 _ (c .1) in
-      record { one-log = same-true _ _ (not-false _ (a .0)); no-smaller = ltb-false _ _ (or-false (outside size) (ltb size size₀) (b .0) .1); no-earlier = ltb-false _ _ (c .0); consistent = d .1 }
+pub taken : (H : List ℕ → List ℕ) (id₀ : List ℕ) (time₀ size₀ : ℕ) (root₀ id : List ℕ) (time size : ℕ) (root path : List ℕ) → offerNumber H (head id₀ time₀ size₀ root₀) id time size root path ≡ 0 → Taken H id₀ time₀ size₀ root₀ id time size root path
+unfolding byRecord against
+taken H id₀ time₀ size₀ root₀ id time size root path e =
+    let a = pass (not (same id₀ id)) 10 _ (passed H (head id₀ time₀ size₀ root₀) id time size root path e .by-record) in
+    let b = pass (outside size || ltb size size₀) 5 _ (a .1) in
+    let c = pass (ltb time time₀) 11 _ (b .1) in
+    let d = pass (eqb size size₀ && not (same root root₀)) 12 _ (c .1) in
+    record {
+      one-log = same-true _ _ (not-false _ (a .0));
+      no-smaller = ltb-false _ _ (or-false (outside size) (ltb size size₀) (b .0) .1);
+      no-earlier = ltb-false _ _ (c .0);
+      consistent = d .1;
+    }
 
 -- the answer of an offer with its number n
 module _ (r : Record) (id : List ℕ) (time size : ℕ) (root path : List ℕ) (n : ℕ) (e : n ≡ offerNumber sha256 (view r) id time size root path) where

@@ -1,9 +1,9 @@
 // The dispute about two pages that were accepted at one place.
-use super::heads::head_bytes;
-use super::heads::size_of;
 use super::bytes::copy;
 use super::bytes::equal;
 use super::bytes::root_of;
+use super::heads::head_bytes;
+use super::heads::size_of;
 use carry::compare::Compared;
 use carry::compare::compare;
 use carry::forward::Carried;
@@ -201,6 +201,16 @@ pub fn dispute(
         return Settled::Refused(verdict);
     }
     work(
-        place, page1, one, path1, size, root, heads, page2, two, path2, pair,
+        place,
+        page1,
+        one,
+        path1,
+        size,
+        root,
+        heads,
+        page2,
+        two,
+        path2,
+        pair,
     )
 }

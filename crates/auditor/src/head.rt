@@ -1,10 +1,10 @@
 // Offering a head.
-use crate::Answered;
-use crate::Record;
 use super::bytes::id_of;
 use super::bytes::other_root;
 use super::bytes::root_of;
 use super::bytes::same_log;
+use crate::Answered;
+use crate::Record;
 use tree::limits::LARGEST_SIZE;
 use tree::verdict::consistency_verdict;
 ghost use mathlib.Core.Path.{_≡_};
@@ -37,14 +37,7 @@ fn first_number(size: u64, path: &[u8]) -> u32
 }
 
 // A later head, against the one held: 11, 6, 12, 13, then the consistency verdict.
-fn later_number(
-    r: Record,
-    id: &[u8],
-    timestamp: u64,
-    size: u64,
-    root: &[u8],
-    path: &[u8],
-) -> u32
+fn later_number(r: Record, id: &[u8], timestamp: u64, size: u64, root: &[u8], path: &[u8]) -> u32
     ensures { λ n. ⌜ n ≡ against sha256 (idOf r) (r .timestamp) (r .size) (r .root) (now (id .entry)) timestamp size (now (root .entry)) (now (path .entry)) ⌝ }
 {
     if !same_log(r, id) {
@@ -90,14 +83,7 @@ fn number(r: Record, id: &[u8], timestamp: u64, size: u64, root: &[u8], path: &[
 
 // Offers a head with its log id, timestamp, size and root, and the consistency path to it from the head held, which is empty for the first. An accepted
 // head replaces the record; a refusal returns it as it was. Order: 5, 10, 6, 7 for the first; 5, 10, 11, 6, 12, 13, 7, 8 for a later one.
-pub fn offer(
-    r: Record,
-    id: &[u8],
-    timestamp: u64,
-    size: u64,
-    root: &[u8],
-    path: &[u8],
-) -> Answered
+pub fn offer(r: Record, id: &[u8], timestamp: u64, size: u64, root: &[u8], path: &[u8]) -> Answered
     ensures { λ o. ⌜ o ≡ offered r (now (id .entry)) timestamp size (now (root .entry)) (now (path .entry)) ⌝ }
 {
     let n = number(r, id, timestamp, size, root, path);

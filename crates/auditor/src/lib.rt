@@ -53,5 +53,4 @@ pub fn claims()
     ensures held_is_accepted { λ _. ⌜ HeldIsAccepted ⌝ }
     ensures never_back { λ _. ⌜ NeverBack ⌝ }
     ensures honest_log { λ _. ⌜ HonestLog ⌝ }
-{
-}
+{}

@@ -87,7 +87,7 @@ met-bytes H place n leaf₁ path₁ leaf₂ path₂ e p l₁ q l₂ c =
 -- ---- the claims
 
 -- a verdict that is not 0 is the answer
-opened : (v : ℕ) (c d : Comparison) → unless v c ≡ d → ((n : ℕ) → d ≡ refused n → ⊥) → (v ≡ 0) × (c ≡ d)
+pub opened : (v : ℕ) (c d : Comparison) → unless v c ≡ d → ((n : ℕ) → d ≡ refused n → ⊥) → (v ≡ 0) × (c ≡ d)
 unfolding unless
 opened v c d e h = let p = go (eqb v 0) e in (eqb-true v 0 (p .0), p .1)
   where
@@ -95,14 +95,14 @@ opened v c d e h = let p = go (eqb v 0) e in (eqb-true v 0 (p .0), p .1)
     go true f = (refl, f)
     go false f = absurd (h v (sym f))
 
-fitted : (b : Bool) (n : ℕ) (c d : Comparison) → cond b (refused n) c ≡ d → ((n : ℕ) → d ≡ refused n → ⊥) → (b ≡ false) × (c ≡ d)
+pub fitted : (b : Bool) (n : ℕ) (c d : Comparison) → cond b (refused n) c ≡ d → ((n : ℕ) → d ≡ refused n → ⊥) → (b ≡ false) × (c ≡ d)
 fitted true n c d e h = absurd (h n (sym e))
 fitted false n c d e h = (refl, e)
 
 is-collision : (s t : List ℕ) (n : ℕ) → collision s t ≡ refused n → ⊥
 is-collision s t n e = let z : _≡_ {A = ℕ} 0 1 = cc in omega arith
 
-is-equal : (n : ℕ) → equal ≡ refused n → ⊥
+pub is-equal : (n : ℕ) → equal ≡ refused n → ⊥
 is-equal n e = let z : _≡_ {A = ℕ} 0 1 = cc in omega arith
 
 found-apart : (d : Difference) (s t : List ℕ) → found d ≡ collision s t → d ≡ apart s t

@@ -1,11 +1,12 @@
+-- `auditor::claims`: what every list of calls keeps. Assumes nothing.
+use Rattle.auditor.proofs.Settling.{demand3, whatever-given, two-auditors}
+use Rattle.auditor.proofs.Holding.{held-is-accepted, never-back}
+use Rattle.auditor.proofs.Serving.{honest-log}
 use Rattle.auditor.proofs.claims.Statement.{statement}
 use Rattle.auditor.proofs.claims.Tie as tie
-use Rattle.auditor.proofs.claims.Reads as reads
-use Rattle.auditor.proofs.claims.Lts as lts
 
--- src/lib.rt:49:1
 returns : tie.Need-returns
-returns c = ?
+returns c = (demand3, (whatever-given, (two-auditors, (held-is-accepted, (never-back, honest-log)))))
 
 pub claims-spec : {M : Type 1} → statement M
 claims-spec = tie.close (tie.spec returns)

@@ -28,11 +28,17 @@ abbrev μ-loop : tie.MeasureT-loop
 
 loop-holds : tie.Need-loop-holds Inv-loop μ-loop
 loop-holds c =
-    let a = c .before .before .before .before .before .before .before .before .before .before .before .before .before .before .args in
-    (omega arith, c .before .before .before .before .before .before .before .before .before .before .before .before .before .before .pre .0, search needs, search needs, refl, refl,
+    let a = c .before .before .before .before .before .before .before .before .before .before .before .before .before .before .args in (
+      omega arith,
+      c .before .before .before .before .before .before .before .before .before .before .before .before .before .before .pre .0,
+      search needs,
+      search needs,
+      refl,
+      refl,
       ap₂ (λ (r p : List ℕ). Left sha256 (a .place) (now (a .page1)) (now (a .page2)) (now (a .path2)) (now (a .heads)) (length (now (a .pair))) 0 (a .size) r p)
-      (c .root-of .ensures)
-      (ap (take (length (now (a .path1)))) (c .before .before .copy .ensures) ∙ over-start (now (a .path1)) _ _ refl))
+          (c .root-of .ensures)
+          (ap (take (length (now (a .path1)))) (c .before .before .copy .ensures) ∙ over-start (now (a .path1)) _ _ refl),
+    )
 
 returns : tie.Need-returns Inv-loop μ-loop
 returns c =
@@ -112,9 +118,15 @@ loop-again c =
     let e = left-then sha256 (a .place) (now (a .page1)) (now (a .page2)) (now (a .path2)) (now (a .heads)) (length (now (a .pair))) (L .at) (L .m) (L .held) (take (L .len) (L .path)) _ (rest-is (now (a .heads)) (L .at)) n (c .before .before .before .before .before .before .before .before .before .before .before .before .before .before .before .before .before .head-bytes .ensures) (a .one .bytes) (length (L .pair)) (c .before .before .before .before .before .before .before .before .before .before .before .before .before .before .before .before .if1 .left) (c .before .before .before .before .before .before .before .before .before .before .before .before .before .before .before .before .before .before .before .before .before .before .before .before .before .before .before .before .before .before .before .before .before .before .before .pre .2) (L .inv .4) in
     let rest = take (length (now (a .heads)) - L .at) (drop (L .at) (now (a .heads))) in
     let q = carried-path _ (follow sha256 (a .place) (now (a .page1)) (now (a .page2)) (now (a .path2)) (length (now (a .pair))) (headsOf (drop (L .at + n) (now (a .heads)))) (sizeOf rest) (rootOf rest)) _ _ _ (sym (c .before .before .before .before .carried2 .given .1) ∙ d .0) (d .1 .0) in
-    let t = d .1 .1 ∙ q .2 (L .pair) ∙ L .inv .5 in
-    (next c, within _ (c .before .before .before .before .before .before .before .before .before .over-head .last .1 .1 .1 .1 .1 .1 .1 .0) (q .1) (search needs), search needs, search needs, ap length t, t,
-      rw (c .before .before .size-of .ensures, c .root-of2 .ensures) (sym (q .0) ∙ sym e ∙ L .inv .6))
+    let t = d .1 .1 ∙ q .2 (L .pair) ∙ L .inv .5 in (
+      next c,
+      within _ (c .before .before .before .before .before .before .before .before .before .over-head .last .1 .1 .1 .1 .1 .1 .1 .0) (q .1) (search needs),
+      search needs,
+      search needs,
+      ap length t,
+      t,
+      rw (c .before .before .size-of .ensures, c .root-of2 .ensures) (sym (q .0) ∙ sym e ∙ L .inv .6),
+    )
 
 slice-aggregate-settle-3 : tie.Need-slice-aggregate-settle-3 Inv-loop μ-loop
 slice-aggregate-settle-3 c =

@@ -1,0 +1,174 @@
+-- What an auditor's record holds over every list of calls: the code's answers are the paper's, and the record is the head that was accepted last, which
+-- never goes back. Assumes nothing.
+use mathlib.Core.Path.{_≡_, refl, sym, ap, _∙_}
+use mathlib.Core.List.{List, [], _∷_, _++_}
+use Prim.Native.Nat.{ℕ, zero, suc, _^_, _≤_, _<_}
+use native.Mathlib.Omega.{arith}
+use lib.Dec.{ltb}
+use lib.ListN.{length, drop, replicate}
+use lib.Seq.{take-at}
+use borrow.Author.Tests.{ltb-false}
+use Rattle.hash.specs.Digest.{sha256}
+use Rattle.hash.specs.Answers.{mostItem}
+use Rattle.tree.specs.Limits.{largestSize}
+use Rattle.tree.specs.Build.{over}
+use Rattle.tree.specs.Verdict.{inclusionVerdict, consistencyVerdict}
+use Rattle.tree.proofs.Counting.{bounds}
+use Rattle.tree.proofs.Accepting.{pass, consistency-accepted}
+use Rattle.auditor.specs.declared.Record.{Record}
+use Rattle.auditor.specs.Held.{Held, empty, head, view, none, holding}
+use Rattle.auditor.specs.Offer.{offerNumber, kept, keptRecord, offered}
+use Rattle.auditor.specs.Page.{pageNumber, asked}
+use Rattle.auditor.specs.Heads.{Heads, then}
+use Rattle.auditor.specs.Calls.{Call, offer, ask, Entry, answered, called, answers, number, after, run, heads}
+use Rattle.auditor.specs.Claims.{final, lastHead, HeldIsAccepted, NeverBack}
+use Rattle.auditor.proofs.Offering.{taken}
+use Rattle.auditor.proofs.Reading.{Fits}
+
+-- the code's record after an offer stands for the paper's
+view-kept : (r : Record) (id : List ℕ) (time size : ℕ) (root : List ℕ) (n : ℕ) → view (keptRecord r id time size root n) ≡ kept (view r) id time size root n
+unfolding keptRecord kept view holding over
+view-kept r id time size root zero = ap (λ (x : List ℕ). head x time size root) (take-at id (drop (length id) (replicate 127 0)) (length id) refl)
+view-kept r id time size root (suc n) = refl
+
+same-run : (calls : List Call) (r : Record) → answers r calls ≡ run sha256 (view r) calls
+unfolding answers run called offered asked number after
+same-run [] r = refl
+same-run (offer id time size root path ∷ calls) r =
+    let n = offerNumber sha256 (view r) id time size root path in
+    ap (λ (es : List Entry). answered (offer id time size root path) n ∷ es)
+    (same-run calls (keptRecord r id time size root n) ∙ ap (λ (held : Held). run sha256 held calls) (view-kept r id time size root n))
+same-run (ask place page path ∷ calls) r =
+    ap (λ (es : List Entry). answered (ask place page path) (pageNumber sha256 (view r) place page path) ∷ es) (same-run calls r)
+
+view-none : view none ≡ empty
+unfolding view none
+view-none = refl
+
+-- what the code answers from its empty record is what the paper says
+pub same-answers : (calls : List Call) → answers none calls ≡ run sha256 empty calls
+same-answers calls = same-run calls none ∙ ap (λ (held : Held). run sha256 held calls) view-none
+
+-- an entry of an offer
+last-offer : (held : Held) (id : List ℕ) (time size : ℕ) (root path : List ℕ) (n : ℕ) (es : List Entry) → lastHead (kept held id time size root n) es ≡ lastHead held (answered (offer id time size root path) n ∷ es)
+unfolding lastHead kept
+last-offer held id time size root path zero es = refl
+last-offer held id time size root path (suc n) es = refl
+
+held-last : (calls : List Call) (r : Record) → view (final r calls) ≡ lastHead (view r) (answers r calls)
+unfolding final answers called offered asked lastHead
+held-last [] r = refl
+held-last (offer id time size root path ∷ calls) r =
+    let n = offerNumber sha256 (view r) id time size root path in
+    let r₂ = keptRecord r id time size root n in
+    held-last calls r₂ ∙ ap (λ (held : Held). lastHead held (answers r₂ calls)) (view-kept r id time size root n) ∙ last-offer (view r) id time size root path n (answers r₂ calls)
+held-last (ask place page path ∷ calls) r = held-last calls r
+
+pub held-is-accepted : HeldIsAccepted
+held-is-accepted calls = held-last calls none ∙ ap (λ (held : Held). lastHead held (answers none calls)) view-none
+
+module _ (H : List ℕ → List ℕ) where
+  -- each entry's number is what its call answers over the record then held
+  unfoldable pub Runs : Held → List Entry → Type 0
+  Runs held [] = Unit {0}
+  Runs held (answered c n ∷ es) = (number H held c ≡ n) × Runs (after H held c n) es
+
+  pub runs : (calls : List Call) (held : Held) → Runs held (run H held calls)
+  unfolding Runs run
+  runs [] held = tt
+  runs (c ∷ calls) held = (refl, runs calls (after H held c (number H held c)))
+
+  -- the entries after some are a run over the record that these leave
+  pub later : (es fs : List Entry) (held : Held) → Runs held (es ++ fs) → Runs (lastHead held es) fs
+  unfolding Runs after kept lastHead
+  later [] fs held w = w
+  later (answered (offer id time size root path) zero ∷ es) fs held w = later es fs (head id time size root) (w .1)
+  later (answered (offer id time size root path) (suc n) ∷ es) fs held w = later es fs held (w .1)
+  later (answered (ask place page path) n ∷ es) fs held w = later es fs held (w .1)
+
+  -- an accepted page, under a head
+  pub shown : (id : List ℕ) (time size : ℕ) (root : List ℕ) (place : ℕ) (page path : List ℕ) → pageNumber H (head id time size root) place page path ≡ 0 → (length page ≤ mostItem) × (inclusionVerdict H (H (0 ∷ page)) place size root path ≡ 0)
+  unfolding pageNumber
+  shown id time size root place page path e =
+      let p = pass (ltb mostItem (length page)) 0 _ e in
+      (ltb-false mostItem (length page) (p .0), p .1)
+
+  -- a record that holds a head of a log, of no smaller size and no earlier timestamp
+  Since : List ℕ → ℕ → ℕ → Held → Type 0
+  Since id time size empty = ⊥
+  Since id time size (head id₂ time₂ size₂ root₂) = (id ≡ id₂) × (size ≤ size₂) × (time ≤ time₂)
+
+  module _ (id : List ℕ) (time size : ℕ) where
+    since-offer : (held : Held) (id₂ : List ℕ) (time₂ size₂ : ℕ) (root₂ path₂ : List ℕ) → Since id time size held → number H held (offer id₂ time₂ size₂ root₂ path₂) ≡ 0 → (id ≡ id₂) × (size ≤ size₂) × (time ≤ time₂)
+    unfolding Since number
+    since-offer empty id₂ time₂ size₂ root₂ path₂ s e = absurd s
+    since-offer (head id₁ time₁ size₁ root₁) id₂ time₂ size₂ root₂ path₂ s e =
+        let t = taken H id₁ time₁ size₁ root₁ id₂ time₂ size₂ root₂ path₂ e in
+        (s .0 ∙ t .one-log, omega arith, omega arith)
+
+    since : (es fs : List Entry) (held : Held) → Since id time size held → Runs held (es ++ fs) → Since id time size (lastHead held es)
+    unfolding Since Runs after kept lastHead
+    since [] fs held s w = s
+    since (answered (offer id₂ time₂ size₂ root₂ path₂) zero ∷ es) fs held s w =
+        since es fs (head id₂ time₂ size₂ root₂) (since-offer held id₂ time₂ size₂ root₂ path₂ s (w .0)) (w .1)
+    since (answered (offer id₂ time₂ size₂ root₂ path₂) (suc n) ∷ es) fs held s w = since es fs held s (w .1)
+    since (answered (ask place page path) n ∷ es) fs held s w = since es fs held s (w .1)
+
+  never : (calls : List Call) (before between rest : List Entry) (id₁ id₂ : List ℕ) (time₁ time₂ size₁ size₂ : ℕ) (root₁ root₂ path₁ path₂ : List ℕ) →
+      run H empty calls ≡ before ++ (answered (offer id₁ time₁ size₁ root₁ path₁) 0 ∷ (between ++ (answered (offer id₂ time₂ size₂ root₂ path₂) 0 ∷ rest))) →
+      (id₁ ≡ id₂) × (size₁ ≤ size₂) × (time₁ ≤ time₂)
+  unfolding Runs after kept Since
+  never calls before between rest id₁ id₂ time₁ time₂ size₁ size₂ root₁ root₂ path₁ path₂ e =
+      let w : Runs empty (before ++ (answered (offer id₁ time₁ size₁ root₁ path₁) 0 ∷ (between ++ (answered (offer id₂ time₂ size₂ root₂ path₂) 0 ∷ rest)))) = rw e at (runs calls empty) in
+      let l = later before (answered (offer id₁ time₁ size₁ root₁ path₁) 0 ∷ (between ++ (answered (offer id₂ time₂ size₂ root₂ path₂) 0 ∷ rest))) empty w in
+      let first = head id₁ time₁ size₁ root₁ in
+      let s = since id₁ time₁ size₁ between (answered (offer id₂ time₂ size₂ root₂ path₂) 0 ∷ rest) first (refl, omega arith, omega arith) (l .1) in
+      let k = later between (answered (offer id₂ time₂ size₂ root₂ path₂) 0 ∷ rest) first (l .1) in
+      since-offer id₁ time₁ size₁ (lastHead first between) id₂ time₂ size₂ root₂ path₂ s (k .0)
+
+  -- a record that holds some head
+  unfoldable pub Some : Held → Type 0
+  Some empty = ⊥
+  Some (head id time size root) = Unit {0}
+
+  pub some-page : (held : Held) (place : ℕ) (page path : List ℕ) → number H held (ask place page path) ≡ 0 → Some held
+  unfolding number pageNumber Some
+  some-page empty place page path e = absurd (omega arith)
+  some-page (head id time size root) place page path e = tt
+
+  -- the heads that a verdict accepts fit their fields
+  pub consistent-fits : (m n : ℕ) (r s path : List ℕ) (hs : Heads) → consistencyVerdict H m n r s path ≡ 0 → Fits hs → Fits (then n s path hs)
+  unfolding Fits
+  consistent-fits m n r s path hs e f =
+      let c = consistency-accepted H m n r s path e in
+      let b = bounds .consistency-largest m n (c .some) (c .order) (c .in-range) in
+      ((small n (c .in-range), c .second-32, omega arith, omega arith), f)
+    where
+      small : (k : ℕ) → k ≤ largestSize → k < 256 ^ 8
+      small k h = omega arith
+
+  head-fits : (held : Held) (id : List ℕ) (time size : ℕ) (root path : List ℕ) (hs : Heads) → Some held → number H held (offer id time size root path) ≡ 0 → Fits hs → Fits (then size root path hs)
+  unfolding Some number
+  head-fits empty id time size root path hs s e f = absurd s
+  head-fits (head id₀ time₀ size₀ root₀) id time size root path hs s e f =
+      consistent-fits size₀ size root₀ root path hs (taken H id₀ time₀ size₀ root₀ id time size root path e .consistent) f
+
+  fit : (es fs : List Entry) (held : Held) → Some held → Runs held (es ++ fs) → Fits (heads es)
+  unfolding heads Runs after kept Some Fits
+  fit [] fs held s w = tt
+  fit (answered (offer id time size root path) zero ∷ es) fs held s w =
+      head-fits held id time size root path (heads es) s (w .0) (fit es fs (head id time size root) tt (w .1))
+  fit (answered (offer id time size root path) (suc n) ∷ es) fs held s w = fit es fs held s (w .1)
+  fit (answered (ask place page path) n ∷ es) fs held s w = fit es fs held s (w .1)
+
+  -- the heads accepted after an accepted page
+  pub heads-fit : (calls : List Call) (before between rest : List Entry) (place : ℕ) (page path : List ℕ) → run H empty calls ≡ before ++ (answered (ask place page path) 0 ∷ (between ++ rest)) → Fits (heads between)
+  unfolding Runs after
+  heads-fit calls before between rest place page path e =
+      let w : Runs empty (before ++ (answered (ask place page path) 0 ∷ (between ++ rest))) = rw e at (runs calls empty) in
+      let l = later before (answered (ask place page path) 0 ∷ (between ++ rest)) empty w in
+      fit between rest (lastHead empty before) (some-page (lastHead empty before) place page path (l .0)) (l .1)
+
+pub never-back : NeverBack
+never-back calls before between rest id₁ id₂ time₁ time₂ size₁ size₂ root₁ root₂ path₁ path₂ e =
+    never sha256 calls before between rest id₁ id₂ time₁ time₂ size₁ size₂ root₁ root₂ path₁ path₂ (sym (same-answers calls) ∙ e)

@@ -1,0 +1,326 @@
+-- An honest log: all that it serves is accepted, and a dispute about two of its pages says that they are the same. Assumes nothing.
+use mathlib.Core.Path.{_≡_, refl, sym, ap, ap₂, _∙_}
+use mathlib.Core.Logic.{⊎-elim}
+use mathlib.Core.Bool.{Bool, true, false, not, _&&_}
+use mathlib.Core.List.{List, [], _∷_, _++_, map}
+use Prim.Native.Nat.{ℕ, zero, suc, _*_, _/_, _%_, _≤_, _<_}
+use native.Mathlib.Omega.{arith}
+use lib.Dec.{eqb}
+use lib.ListN.{length, take, drop, getD, length-take, length-map, take-append-drop}
+use lib.Seq.{take-at, take-take, getD-take}
+use borrow.Author.Tests.{le-ltb, eq-eqb, ne-eqb, eqb-true}
+use Rattle.hash.specs.Digest.{sha256}
+use Rattle.hash.specs.Answers.{mostItem}
+use Rattle.hash.proofs.Promises.{sha256-length}
+use Rattle.tree.specs.Limits.{largestSize}
+use Rattle.tree.specs.Tree.{leaf, root, path}
+use Rattle.tree.specs.Joined.{nodes, nodeAt, joined, same}
+use Rattle.tree.specs.Build.{wrote, into, unfit, inclusionBuilt, consistencyBuilt}
+use Rattle.tree.specs.Verdict.{inclusionVerdict, consistencyVerdict}
+use Rattle.tree.proofs.Splitting.{lt-or-ge}
+use Rattle.tree.proofs.Joining.{All32, all-take, all-nodes, at-first, nodes-first, nodes-joined, joined-append, joined-length, same-refl, same-of}
+use Rattle.tree.proofs.Counting.{bounds}
+use Rattle.tree.proofs.Completing.{root-32}
+use Rattle.tree.proofs.Accepting.{inclusion-accepted, consistency-accepted}
+use Rattle.tree.proofs.Building.{unfit-rest, short, long, path-in, path-bytes, complete}
+use Rattle.carry.specs.Forward.{carried, carry}
+use Rattle.carry.specs.Compare.{compare}
+use Rattle.carry.proofs.Comparing.{comparing}
+use Rattle.carry.proofs.Honest.{honest}
+use Rattle.auditor.specs.declared.dispute.Settled.the-variants.{Same}
+use Rattle.auditor.specs.Held.{Held, empty, head, none}
+use Rattle.auditor.specs.Offer.{outside, first, against, byRecord, offerNumber, kept}
+use Rattle.auditor.specs.Page.{pageNumber}
+use Rattle.auditor.specs.Heads.{Heads, lastSize, lastRoot, joinedHeads, headsOf}
+use Rattle.auditor.specs.Dispute.{Finding, alike, longestPath, answer, onward, settled, unless, follow, dispute}
+use Rattle.auditor.specs.Calls.{Call, offer, ask, Entry, answered, answers, number, after, run, heads}
+use Rattle.auditor.specs.Claims.{leaves, Served, HonestLog}
+use Rattle.auditor.proofs.Reading.{read-back}
+use Rattle.auditor.proofs.Holding.{same-answers, heads-fit}
+
+-- ---- what is accepted
+
+same-size : (n m : ℕ) (s r : List ℕ) → (n ≡ m → s ≡ r) → (eqb n m && not (same s r)) ≡ false
+same-size n m s r h = go (eqb n m) refl
+  where
+    go : (b : Bool) → eqb n m ≡ b → (b && not (same s r)) ≡ false
+    go true e = rw (same-of s r (h (eqb-true n m e)))
+    go false e = refl
+
+module _ (H : List ℕ → List ℕ) (id : List ℕ) (least : 2 ≤ length id) (most : length id ≤ 127) (time n : ℕ) (s : List ℕ) (s-32 : length s ≡ 32) (some : 0 < n) (in-range : n ≤ largestSize) where
+  takes-first : offerNumber H empty id time n s [] ≡ 0
+  unfolding offerNumber byRecord first outside
+  takes-first =
+      rw (eq-eqb (length s) 32 s-32, le-ltb (length id) 2 least, le-ltb 127 (length id) most, ne-eqb n 0 (λ e. omega arith), le-ltb largestSize n in-range)
+
+  takes-later : (t m : ℕ) (r proof : List ℕ) → length proof % 32 ≡ 0 → m ≤ n → t ≤ time → (n ≡ m → s ≡ r) → consistencyVerdict H m n r s proof ≡ 0 → offerNumber H (head id t m r) id time n s proof ≡ 0
+  unfolding offerNumber byRecord against outside
+  takes-later t m r proof whole le since one v =
+      rw (eq-eqb (length s) 32 s-32, le-ltb (length id) 2 least, le-ltb 127 (length id) most, eq-eqb (length proof % 32) 0 whole, same-refl id, ne-eqb n 0 (λ e. omega arith), le-ltb largestSize n in-range, le-ltb n m le, le-ltb time t since, same-size n m s r one) v
+
+takes-page : (H : List ℕ → List ℕ) (id : List ℕ) (t m : ℕ) (r : List ℕ) (place : ℕ) (item proof : List ℕ) → length item ≤ mostItem → inclusionVerdict H (H (0 ∷ item)) place m r proof ≡ 0 → pageNumber H (head id t m r) place item proof ≡ 0
+unfolding pageNumber
+takes-page H id t m r place item proof l v = rw (le-ltb mostItem (length item) l) v
+
+-- one accepted call, and what follows it
+goes-on : (H : List ℕ → List ℕ) (c : Call) (held held₂ : Held) (calls : List Call) (es : List Entry) → number H held c ≡ 0 → after H held c 0 ≡ held₂ → run H held₂ calls ≡ es → run H held (c ∷ calls) ≡ answered c 0 ∷ es
+unfolding run
+goes-on H c held held₂ calls es e d f = rw (e, d, f)
+
+-- ---- the leaf hashes of the first pages
+
+all-leaves : (H : List ℕ → List ℕ) → ((s : List ℕ) → length (H s) ≡ 32) → (l : List (List ℕ)) → All32 (map (leaf H) l)
+unfolding All32 leaf
+all-leaves H H32 [] = tt
+all-leaves H H32 (d ∷ l) = (H32 (0 ∷ d), all-leaves H H32 l)
+
+leaf-at : (H : List ℕ → List ℕ) (l : List (List ℕ)) (i : ℕ) → i < length l → getD (map (leaf H) l) i [] ≡ H (0 ∷ getD l i [])
+unfolding leaf
+leaf-at H [] i h = absurd (omega arith)
+leaf-at H (d ∷ l) zero h = refl
+leaf-at H (d ∷ l) (suc i) h = leaf-at H l i (omega arith)
+
+taken-joined : (n : ℕ) (l : List (List ℕ)) → All32 l → n ≤ length l → take (32 * n) (joined l) ≡ joined (take n l)
+taken-joined n l a h =
+    let e : joined l ≡ joined (take n l) ++ joined (drop n l) = ap joined (sym (take-append-drop n l)) ∙ joined-append (take n l) (drop n l) in
+    let k = joined-length (take n l) (all-take n l a) in
+    let i : length (take n l) ≡ n = simp length-take (omega arith) in
+    ap (take (32 * n)) e ∙ take-at (joined (take n l)) (joined (drop n l)) (32 * n) (omega arith)
+
+-- what a builder with room wrote
+written : (room : ℕ) (x w : List ℕ) → into room x ≡ wrote w → w ≡ x
+written room x w e =
+    ⊎-elim (λ l. let i = short room x l in let z : _≡_ {A = ℕ} 0 1 = cc in absurd (omega arith)) (λ l. let i = long room x l in cc) (lt-or-ge room (length x))
+
+module _ (id : List ℕ) (pages : List (List ℕ)) (all : length pages ≤ largestSize) where
+  hashes : List (List ℕ)
+  hashes = map (leaf sha256) pages
+
+  -- the root of the first n, and the path of a place among them
+  rootAt : ℕ → List ℕ
+  rootAt n = root sha256 (nodes (leaves id pages n))
+
+  own : ℕ → ℕ → List ℕ
+  own n place = joined (path sha256 place (nodes (leaves id pages n)))
+
+  root-at-32 : (n : ℕ) → length (rootAt n) ≡ 32
+  unfolding rootAt
+  root-at-32 n = root-32 sha256 sha256-length (nodes (leaves id pages n)) (all-nodes (leaves id pages n))
+
+  module _ (n : ℕ) (le : n ≤ length pages) where
+    leaves-joined : leaves id pages n ≡ joined (take n hashes)
+    unfolding leaves hashes
+    leaves-joined =
+        let k = length-map pages (leaf sha256) in
+        taken-joined n (map (leaf sha256) pages) (all-leaves sha256 sha256-length pages) (omega arith)
+
+    leaves-nodes : nodes (leaves id pages n) ≡ take n hashes
+    unfolding hashes
+    leaves-nodes = ap nodes leaves-joined ∙ nodes-joined (take n (map (leaf sha256) pages)) (all-take n (map (leaf sha256) pages) (all-leaves sha256 sha256-length pages))
+
+    leaves-bytes : length (leaves id pages n) ≡ 32 * n
+    unfolding hashes
+    leaves-bytes =
+        let k = length-map pages (leaf sha256) in
+        let i : length (take n (map (leaf sha256) pages)) ≡ n = simp length-take (omega arith) in
+        ap length leaves-joined ∙ joined-length (take n (map (leaf sha256) pages)) (all-take n (map (leaf sha256) pages) (all-leaves sha256 sha256-length pages)) ∙ omega arith
+
+    leaves-count : length (leaves id pages n) / 32 ≡ n
+    leaves-count = let e = leaves-bytes in omega arith
+
+    leaves-fit : unfit (leaves id pages n) ≡ false
+    leaves-fit =
+        let e = leaves-bytes in
+        unfit-rest (leaves id pages n) (omega arith) ∙ le-ltb largestSize (length (leaves id pages n) / 32) (omega arith)
+
+    leaves-first : (m : ℕ) → m ≤ n → take (32 * m) (leaves id pages n) ≡ leaves id pages m
+    unfolding leaves
+    leaves-first m h = take-take (32 * m) (32 * n) (joined (map (leaf sha256) pages)) (omega arith)
+
+    leaves-at : (place : ℕ) → place < n → nodeAt place (leaves id pages n) ≡ sha256 (0 ∷ getD pages place [])
+    unfolding hashes
+    leaves-at place h =
+        let c = leaves-count in
+        sym (ap (λ (l : List (List ℕ)). getD l place []) (nodes-first (leaves id pages n)) ∙ at-first (length (leaves id pages n) / 32) place (leaves id pages n) (omega arith))
+        ∙ ap (λ (l : List (List ℕ)). getD l place []) leaves-nodes ∙ getD-take n (map (leaf sha256) pages) place [] h ∙ leaf-at sha256 pages place (omega arith)
+
+    own-in : (place room : ℕ) → place < n → inclusionBuilt sha256 (leaves id pages n) place room ≡ into room (own n place)
+    unfolding own
+    own-in place room h = let c = leaves-count in path-in sha256 (leaves id pages n) place room leaves-fit (omega arith)
+
+    own-short : (place : ℕ) → place < n → length (own n place) ≤ longestPath
+    unfolding own
+    own-short place h =
+        let c = leaves-count in
+        let b = path-bytes sha256 sha256-length place (leaves id pages n) (omega arith) in
+        let k = bounds .inclusion-largest place (length (leaves id pages n) / 32) (omega arith) (omega arith) in
+        omega arith
+
+    own-built : (place : ℕ) → place < n → inclusionBuilt sha256 (leaves id pages n) place longestPath ≡ wrote (own n place)
+    own-built place h = own-in place longestPath h ∙ long longestPath (own n place) (own-short place h)
+
+    shows : (place room : ℕ) (w : List ℕ) → inclusionBuilt sha256 (leaves id pages n) place room ≡ wrote w → place < n
+    shows place room w e =
+        let c = leaves-count in
+        let v = inclusion-accepted sha256 (nodeAt place (leaves id pages n)) place (length (leaves id pages n) / 32) (root sha256 (nodes (leaves id pages n))) w (complete sha256 sha256-length .inclusion (leaves id pages n) w place room e) in
+        let b = v .below in
+        omega arith
+
+    own-accepted : (place : ℕ) → place < n → inclusionVerdict sha256 (sha256 (0 ∷ getD pages place [])) place n (rootAt n) (own n place) ≡ 0
+    unfolding rootAt
+    own-accepted place h =
+        ap₂ (λ (x : List ℕ) (i : ℕ). inclusionVerdict sha256 x place i (root sha256 (nodes (leaves id pages n))) (own n place)) (sym (leaves-at place h)) (sym leaves-count)
+        ∙ complete sha256 sha256-length .inclusion (leaves id pages n) (own n place) place longestPath (own-built place h)
+
+  -- two sizes
+  module _ (m n : ℕ) (order : m ≤ n) (le : n ≤ length pages) where
+    root-first : root sha256 (take m (nodes (leaves id pages n))) ≡ rootAt m
+    unfolding rootAt
+    root-first = ap (root sha256) (ap (take m) (leaves-nodes n le) ∙ take-take m n hashes order ∙ sym (leaves-nodes m (omega arith)))
+
+    consistent : (room : ℕ) (w : List ℕ) → consistencyBuilt sha256 (leaves id pages n) m room ≡ wrote w → consistencyVerdict sha256 m n (rootAt m) (rootAt n) w ≡ 0
+    unfolding rootAt
+    consistent room w e =
+        ap₂ (λ (i : ℕ) (r : List ℕ). consistencyVerdict sha256 m i r (root sha256 (nodes (leaves id pages n))) w) (sym (leaves-count n le)) (sym root-first)
+        ∙ complete sha256 sha256-length .consistency (leaves id pages n) w m room e
+
+    -- the path of a place is carried to its path in the longer list
+    own-carried : (place room pair : ℕ) (w : List ℕ) → place < m → consistencyBuilt sha256 (leaves id pages n) m room ≡ wrote w → 130 ≤ pair →
+        carry sha256 (sha256 (0 ∷ getD pages place [])) place m n (rootAt m) (rootAt n) (own m place) w longestPath pair ≡ carried (own n place)
+    unfolding rootAt
+    own-carried place room pair w h e l =
+        let first = leaves-first n le m order in
+        let built : inclusionBuilt sha256 (take (32 * m) (leaves id pages n)) place longestPath ≡ wrote (own m place) =
+        ap (λ (s : List ℕ). inclusionBuilt sha256 s place longestPath) first ∙ own-built m (omega arith) place h in
+        ap₂ (λ (x s : List ℕ). carry sha256 x place m n (root sha256 (nodes s)) (root sha256 (nodes (leaves id pages n))) (own m place) w longestPath pair) (sym (leaves-at n le place (omega arith))) (sym first)
+        ∙ ap (λ (i : ℕ). carry sha256 (nodeAt place (leaves id pages n)) place m i (root sha256 (nodes (take (32 * m) (leaves id pages n)))) (root sha256 (nodes (leaves id pages n))) (own m place) w longestPath pair) (sym (leaves-count n le))
+        ∙ honest sha256 sha256-length .carries (leaves id pages n) (own m place) w (own n place) place m longestPath room longestPath longestPath pair built e (own-built n le place (omega arith)) (own-short n le place (omega arith)) l
+
+  -- the record of a size and a timestamp
+  heldAt : ℕ → ℕ → Held
+  heldAt zero t = empty
+  heldAt (suc m) t = head id t (suc m) (rootAt (suc m))
+
+  held-at : (m t : ℕ) → 0 < m → heldAt m t ≡ head id t m (rootAt m)
+  unfolding heldAt
+  held-at zero t h = absurd (omega arith)
+  held-at (suc m) t h = refl
+
+  -- what is said of each entry, over a size: the log's own head and path, or its own page and path
+  NewHead : ℕ → ℕ → List ℕ → List ℕ → Type 0
+  NewHead m n r w = (m ≤ n) × (0 < n) × (n ≤ length pages) × (r ≡ rootAt n) × (0 < m → (room : ℕ) × (consistencyBuilt sha256 (leaves id pages n) m room ≡ wrote w))
+
+  OwnPage : ℕ → ℕ → List ℕ → List ℕ → Type 0
+  OwnPage m place item w = (item ≡ getD pages place []) × (place < m) × (w ≡ own m place)
+
+  Good : ℕ → List Entry → Type 0
+  Good m [] = Unit {0}
+  Good m (answered (offer id₂ time n r w) zero ∷ es) = NewHead m n r w × Good n es
+  Good m (answered (offer id₂ time n r w) (suc k) ∷ es) = ⊥
+  Good m (answered (ask place item w) zero ∷ es) = OwnPage m place item w × Good m es
+  Good m (answered (ask place item w) (suc k) ∷ es) = ⊥
+
+  good : {m t : ℕ} {calls : List Call} → Served id pages m t calls → m ≤ length pages → Good m (map (λ (c : Call). answered c 0) calls)
+  unfolding Good NewHead OwnPage rootAt
+  good Served.done h = tt
+  good (Served.first some le s) h = ((omega arith, some, le, refl, λ z. absurd (omega arith)), good s le)
+  good (Served.later {m = m} {n = n} room {path = w} order le since e s) h =
+      let v = consistency-accepted sha256 m n (rootAt m) (rootAt n) w (consistent m n order le room w e) in
+      let z = v .some in
+      ((order, omega arith, le, refl, λ p. (room, e)), good s le)
+  good (Served.page {m = m} {place = place} room {path = w} e s) h =
+      let l = shows m h place room w e in
+      ((refl, l, written room (own m place) w (sym (own-in m h place room l) ∙ e)), good s h)
+
+  -- after some entries
+  after-some : (es fs : List Entry) (m : ℕ) (r : List ℕ) → m ≤ length pages → (0 < m → r ≡ rootAt m) → Good m (es ++ fs) →
+      (let n = lastSize m (heads es) in
+      (n ≤ length pages) × (0 < n → lastRoot r (heads es) ≡ rootAt n) × Good n fs)
+  unfolding Good NewHead heads lastSize lastRoot
+  after-some [] fs m r le k g = (le, k, g)
+  after-some (answered (offer id₂ time n s w) zero ∷ es) fs m r le k g = after-some es fs n s (g .0 .2) (λ z. g .0 .3) (g .1)
+  after-some (answered (offer id₂ time n s w) (suc j) ∷ es) fs m r le k g = absurd g
+  after-some (answered (ask place item w) zero ∷ es) fs m r le k g = after-some es fs m r le k (g .1)
+  after-some (answered (ask place item w) (suc j) ∷ es) fs m r le k g = absurd g
+
+  module _ (least : 2 ≤ length id) (most : length id ≤ 127) (items : (i : ℕ) → length (getD pages i []) ≤ mostItem) where
+    accepts : {m t : ℕ} {calls : List Call} → Served id pages m t calls → m ≤ length pages → run sha256 (heldAt m t) calls ≡ map (λ (c : Call). answered c 0) calls
+    unfolding heldAt rootAt number after kept run
+    accepts Served.done h = refl
+    accepts (Served.first {n = n} {time = time} {calls = calls} some le s) h =
+        goes-on sha256 (offer id time n (rootAt n) []) empty (heldAt n time) calls (map (λ (c : Call). answered c 0) calls) (takes-first sha256 id least most time n (rootAt n) (root-at-32 n) some (omega arith)) (sym (held-at n time some)) (accepts s le)
+    accepts (Served.later {m = m} {t = t} {n = n} {time = time} room {path = w} {calls = calls} order le since e s) h =
+        let v = consistent m n order le room w e in
+        let a = consistency-accepted sha256 m n (rootAt m) (rootAt n) w v in
+        let c = a .counted in
+        let z = a .some in
+        ap (λ (held : Held). run sha256 held (offer id time n (rootAt n) w ∷ calls)) (held-at m t (a .some))
+        ∙ goes-on sha256 (offer id time n (rootAt n) w) (head id t m (rootAt m)) (heldAt n time) calls (map (λ (c : Call). answered c 0) calls)
+        (takes-later sha256 id least most time n (rootAt n) (root-at-32 n) (omega arith) (omega arith) t m (rootAt m) w (omega arith) order since (λ q. ap rootAt q) v)
+        (sym (held-at n time (omega arith))) (accepts s le)
+    accepts (Served.page {m = m} {t = t} {place = place} room {path = w} {calls = calls} e s) h =
+        let l = shows m h place room w e in
+        let k : w ≡ own m place = written room (own m place) w (sym (own-in m h place room l) ∙ e) in
+        let v : inclusionVerdict sha256 (sha256 (0 ∷ getD pages place [])) place m (rootAt m) w ≡ 0 =
+        ap (λ (x : List ℕ). inclusionVerdict sha256 (sha256 (0 ∷ getD pages place [])) place m (rootAt m) x) k ∙ own-accepted m h place l in
+        let p = held-at m t (omega arith) in
+        goes-on sha256 (ask place (getD pages place []) w) (heldAt m t) (heldAt m t) calls (map (λ (c : Call). answered c 0) calls)
+        (ap (λ (held : Held). number sha256 held (ask place (getD pages place []) w)) p ∙ takes-page sha256 id t m (rootAt m) place (getD pages place []) w (items place) v) refl (accepts s h)
+
+    -- two proofs of the log's own page under one head
+    own-settled : (m place pair : ℕ) → place < m → m ≤ length pages → 130 ≤ pair →
+        (let item = getD pages place [] in
+        settled item item (compare sha256 place m (rootAt m) (sha256 (0 ∷ item)) (own m place) (sha256 (0 ∷ item)) (own m place) pair) ≡ alike)
+    unfolding settled
+    own-settled m place pair h le l =
+        let item = getD pages place [] in
+        let h₁ = sha256 (0 ∷ item) in
+        let v = own-accepted m le place h in
+        rw (comparing sha256 sha256-length .compares place m (rootAt m) h₁ (own m place) h₁ (own m place) pair .same v v l .1 (refl, refl), same-refl item)
+
+    -- over the heads that an honest log served since
+    follows : (es fs : List Entry) (m place pair : ℕ) (item w : List ℕ) → place < m → m ≤ length pages → 130 ≤ pair → Good m (es ++ (answered (ask place item w) 0 ∷ fs)) →
+        follow sha256 place (getD pages place []) item w pair (heads es) m (rootAt m) (own m place) ≡ alike
+    unfolding Good NewHead OwnPage heads follow onward
+    follows [] fs m place pair item w h le l g = rw (g .0 .0, g .0 .2) (own-settled m place pair h le l)
+    follows (answered (offer id₂ time n s q) zero ∷ es) fs m place pair item w h le l g =
+        let k = g .0 in
+        let built = k .4 (omega arith) in
+        rw (k .3, own-carried m n (k .0) (k .2) place (built .0) pair q h (built .1) l) (follows es fs n place pair item w (omega arith) (k .2) l (g .1))
+    follows (answered (offer id₂ time n s q) (suc j) ∷ es) fs m place pair item w h le l g = absurd g
+    follows (answered (ask x other q) zero ∷ es) fs m place pair item w h le l g = follows es fs m place pair item w h le l (g .1)
+    follows (answered (ask x other q) (suc j) ∷ es) fs m place pair item w h le l g = absurd g
+
+    disputed : (m place pair : ℕ) (r item₁ w₁ item₂ w₂ : List ℕ) (es fs : List Entry) (hs : Heads) → m ≤ length pages → (0 < m → r ≡ rootAt m) → 130 ≤ pair → hs ≡ heads es →
+        Good m (answered (ask place item₁ w₁) 0 ∷ (es ++ (answered (ask place item₂ w₂) 0 ∷ fs))) → dispute sha256 item₁ place w₁ m r hs item₂ w₂ pair ≡ alike
+    unfolding dispute unless Good OwnPage
+    disputed m place pair r item₁ w₁ item₂ w₂ es fs hs le k l e g =
+        let p = g .0 in
+        let item = getD pages place [] in
+        let two = after-some es (answered (ask place item₂ w₂) 0 ∷ fs) m r le k (g .1) in
+        let i : length item₂ ≤ mostItem = let j = items place in let q = ap length (two .2 .0 .0) in omega arith in
+        let root = k (omega arith) in
+        rw (p .0, p .2, root, e, le-ltb mostItem (length item) (items place), le-ltb mostItem (length item₂) i, own-accepted m le place (p .1))
+        (follows es fs m place pair item₂ w₂ (p .1) le l (g .1))
+
+said : (f : Finding) → f ≡ alike → answer f ≡ Same
+unfolding answer
+said f e = rw e
+
+pub honest-log : HonestLog
+unfolding heldAt
+honest-log id pages calls least most all items s =
+    let good₀ = good id pages all s (omega arith) in
+    record {
+      accepted = accepted₀;
+      same = λ before between rest place page₁ path₁ page₂ path₂ pair e l.
+          let fs = answered (ask place page₂ path₂) 0 ∷ rest in
+          let g : Good id pages all 0 (before ++ (answered (ask place page₁ path₁) 0 ∷ (between ++ fs))) = rw (sym accepted₀ ∙ e) at good₀ in
+          let k = after-some id pages all before (answered (ask place page₁ path₁) 0 ∷ (between ++ fs)) 0 [] (omega arith) (λ z. absurd (omega arith)) g in
+          let back = read-back (heads between) (heads-fit sha256 calls before between fs place page₁ path₁ (sym (same-answers calls) ∙ e)) in
+          said (dispute sha256 page₁ place path₁ (lastSize 0 (heads before)) (lastRoot [] (heads before)) (headsOf (joinedHeads (heads between))) page₂ path₂ (length pair))
+          (disputed id pages all least most items (lastSize 0 (heads before)) place (length pair) (lastRoot [] (heads before)) page₁ path₁ page₂ path₂ between rest (headsOf (joinedHeads (heads between))) (k .0) (k .1) l back (k .2));
+    }
+  where
+    accepted₀ : answers none calls ≡ map (λ (c : Call). answered c 0) calls
+    accepted₀ = same-answers calls ∙ accepts id pages all least most items s (omega arith)
