@@ -20,8 +20,8 @@ use Rattle.auditor.specs.Held.{Held, empty, head, view, none, holding}
 use Rattle.auditor.specs.Offer.{offerNumber, kept, keptRecord, offered}
 use Rattle.auditor.specs.Page.{pageNumber, asked}
 use Rattle.auditor.specs.Heads.{Heads, then}
-use Rattle.auditor.specs.Calls.{Call, offer, ask, Entry, answered, called, answers, number, after, run, heads}
-use Rattle.auditor.specs.Claims.{final, lastHead, HeldIsAccepted, NeverBack}
+use Rattle.auditor.specs.Calls.{Call, offer, ask, Entry, answered, called, answers, final, number, after, run, heads}
+use Rattle.auditor.specs.Claims.{lastHead, HeldIsAccepted, NeverBack}
 use Rattle.auditor.proofs.Offering.{taken}
 use Rattle.auditor.proofs.Reading.{Fits}
 

@@ -26,6 +26,11 @@ unfoldable pub answers : Record → List Call → List Entry
 answers r [] = []
 answers r (c ∷ calls) = answered c (called r c .number) ∷ answers (called r c .after) calls
 
+-- the code's record after them
+unfoldable pub final : Record → List Call → Record
+final r [] = r
+final r (c ∷ calls) = final (called r c .after) calls
+
 -- the same in the paper's terms, over any hash H
 module _ (H : List ℕ → List ℕ) where
   unfoldable pub number : Held → Call → ℕ

@@ -9,17 +9,11 @@ use Rattle.tree.specs.Limits.{largestSize}
 use Rattle.tree.specs.Tree.{leaf, root}
 use Rattle.tree.specs.Joined.{nodes, joined}
 use Rattle.tree.specs.Build.{wrote, inclusionBuilt, consistencyBuilt}
-use Rattle.auditor.specs.declared.Record.{Record}
 use Rattle.auditor.specs.declared.dispute.Settled.the-variants.{Same}
 use Rattle.auditor.specs.Held.{Held, empty, head, view, none}
 use Rattle.auditor.specs.Heads.{lastSize, lastRoot, joinedHeads, headsOf}
 use Rattle.auditor.specs.Dispute.{dispute, answer}
-use Rattle.auditor.specs.Calls.{Call, offer, ask, Entry, answered, called, answers, heads}
-
--- the code's record after a list of calls
-unfoldable pub final : Record → List Call → Record
-final r [] = r
-final r (c ∷ calls) = final (called r c .after) calls
+use Rattle.auditor.specs.Calls.{Call, offer, ask, Entry, answered, answers, final, heads}
 
 -- the head of the last accepted offer
 unfoldable pub lastHead : Held → List Entry → Held
