@@ -14,6 +14,9 @@ pub struct Head {
     pub root: Hash,
 }
 
+/// A log id has 2 to 127 bytes.
+pub const LONGEST_ID: usize = 127;
+
 /// Empty, or the head that was accepted last.
 pub type Record = Option<Head>;
 
@@ -50,7 +53,7 @@ pub fn offer(h: HashFunction, record: &Record, offer: &Offer) -> (u64, Record) {
 /// An empty record checks 5, 10, 6, 7; otherwise 5, 10, 11, 6, 12, 13, 7, 8.
 fn judge_offer(h: HashFunction, record: &Record, offer: &Offer) -> Result<Head, u64> {
     let root: Hash = offer.root[..].try_into().map_err(|_| 5u64)?;
-    if !(2..=127).contains(&offer.log_id.len()) {
+    if !(2..=LONGEST_ID).contains(&offer.log_id.len()) {
         return Err(5);
     }
     if hashes(&offer.path).is_none() {
@@ -114,64 +117,174 @@ pub fn run(h: HashFunction, calls: &[Call]) -> Vec<(u64, Record)> {
     answers
 }
 
-/// What a dispute comes to.
+/// The record as it is kept: any value has an answer, also one that no list of
+/// calls returns.
 #[derive(Clone, Debug, PartialEq, Eq)]
-pub enum Dispute {
+pub struct Stored {
+    pub held: bool,
+    pub id: [u8; LONGEST_ID],
+    /// How many bytes of `id` are the log id; above its length, all of them.
+    pub id_length: u64,
+    pub timestamp: u64,
+    pub size: u64,
+    pub root: Hash,
+}
+
+impl Stored {
+    pub const EMPTY: Stored = Stored { held: false, id: [0; LONGEST_ID], id_length: 0, timestamp: 0, size: 0, root: [0; 32] };
+
+    pub fn head(&self) -> Record {
+        if !self.held {
+            return None;
+        }
+        let length = self.id_length.min(LONGEST_ID as u64) as usize;
+        Some(Head { log_id: self.id[..length].to_vec(), timestamp: self.timestamp, size: self.size, root: self.root })
+    }
+
+    /// An accepted head; zeros follow its log id.
+    fn of(head: &Head) -> Stored {
+        let mut id = [0; LONGEST_ID];
+        id[..head.log_id.len()].copy_from_slice(&head.log_id);
+        let id_length = head.log_id.len() as u64;
+        Stored { held: true, id, id_length, timestamp: head.timestamp, size: head.size, root: head.root }
+    }
+
+    /// The number and the record after an offer; where it is refused, the very record.
+    pub fn offer(&self, h: HashFunction, one: &Offer) -> (u64, Stored) {
+        match offer(h, &self.head(), one) {
+            (0, after) => (0, Stored::of(&after.expect("an accepted head"))),
+            (number, _) => (number, self.clone()),
+        }
+    }
+
+    pub fn page(&self, h: HashFunction, call: &PageCall) -> u64 {
+        page(h, &self.head(), call)
+    }
+}
+
+/// What a dispute comes to.
+#[derive(Clone, Copy, Debug, PartialEq, Eq)]
+pub enum Settled {
     /// The page bytes are the same.
     Same,
-    /// Two strings that differ and have one hash.
-    Strings(Vec<u8>, Vec<u8>),
+    /// Two strings of nodes, in the pair buffer.
+    Nodes,
+    /// The two pages, each with 0x00 before it.
+    Pages,
     /// The number of a refusal; not for calls that an auditor accepted.
     Refused(u64),
 }
 
-/// A head accepted after the first page: its size, root and path.
-pub type Step<'a> = (u64, &'a [u8], &'a [u8]);
-
 /// Two pages at one place. The first was accepted under a head of this size and
-/// root, the second after these steps.
-pub fn dispute(h: HashFunction, first: &PageCall, size: u64, root: &[u8], steps: &[Step], second: &PageCall) -> Dispute {
-    for call in [first, second] {
-        if call.page.len() > LONGEST_ITEM {
-            return Dispute::Refused(1);
-        }
+/// root, the second after the heads that are joined in `heads`.
+#[derive(Clone, Debug, PartialEq, Eq)]
+pub struct Dispute {
+    pub first: PageCall,
+    pub size: u64,
+    pub root: Vec<u8>,
+    pub heads: Vec<u8>,
+    pub second_page: Vec<u8>,
+    pub second_path: Vec<u8>,
+}
+
+/// A head as a dispute takes it: size 8 bytes, root 32, count of nodes 2, the
+/// nodes of its consistency path. The path is a multiple of 32.
+pub fn join_head(size: u64, root: &[u8], path: &[u8], heads: &mut Vec<u8>) {
+    heads.extend(size.to_be_bytes());
+    heads.extend(root);
+    heads.extend((path.len() as u64 / 32).to_be_bytes()[6..].iter());
+    heads.extend(path);
+}
+
+/// Takes the first head off: size, root and path, or `None` where it is cut short.
+fn next_head<'a>(heads: &mut &'a [u8]) -> Option<(u64, &'a [u8], &'a [u8])> {
+    let mut take = |count: usize| {
+        let (part, rest) = (heads.get(..count)?, &heads[count..]);
+        *heads = rest;
+        Some(part)
+    };
+    let number = |bytes: &[u8]| bytes.iter().fold(0, |n, byte| 256 * n + *byte as u64);
+    let size = number(take(8)?);
+    let root = take(32)?;
+    let count = number(take(2)?);
+    Some((size, root, take(32 * count as usize)?))
+}
+
+/// Refused with 1 for either page, the first proof's number, 2 for each head in
+/// turn that is cut short or what carrying refuses, then what comparing refuses.
+pub fn dispute(h: HashFunction, one: &Dispute, pair: &mut [u8]) -> Settled {
+    settle(h, one, pair).unwrap_or_else(Settled::Refused)
+}
+
+fn settle(h: HashFunction, one: &Dispute, pair: &mut [u8]) -> Result<Settled, u64> {
+    if one.first.page.len() > LONGEST_ITEM || one.second_page.len() > LONGEST_ITEM {
+        return Err(1);
     }
-    let mut pair = [0; PAIR];
-    let strings = |pair: &[u8]| Dispute::Strings(pair[..65].to_vec(), pair[65..].to_vec());
-    let leaf = leaf_hash(h, &first.page);
-    let (mut size, mut root, mut path) = (size, root, first.path.clone());
-    for (new_size, new_root, step) in steps {
-        let mut lent = [0; 32 * 64];
-        let old = Inclusion { leaf: &leaf, place: first.place, size, root, path: &path };
-        match carry(h, &old, *new_size, new_root, step, &mut lent, &mut pair) {
-            Ok(Carried::Path(length)) => path = lent[..length].to_vec(),
-            Ok(Carried::Collision) => return strings(&pair),
-            Err(number) => return Dispute::Refused(number),
-        }
-        (size, root) = (*new_size, new_root);
+    let leaf = leaf_hash(h, &one.first.page);
+    let place = one.first.place;
+    let (mut size, mut root, mut path) = (one.size, &one.root[..], one.first.path.clone());
+    match verdict::inclusion(h, &Inclusion { leaf: &leaf, place, size, root, path: &path }) {
+        0 => (),
+        number => return Err(number),
     }
-    let one = Inclusion { leaf: &leaf, place: first.place, size, root, path: &path };
-    match compare(h, &one, &leaf_hash(h, &second.page), &second.path, &mut pair) {
-        Ok(Compared::Collision) => strings(&pair),
-        Err(number) => Dispute::Refused(number),
-        Ok(Compared::Same) if first.page == second.page => Dispute::Same,
-        Ok(Compared::Same) => Dispute::Strings([&[0], &first.page[..]].concat(), [&[0], &second.page[..]].concat()),
+    let mut heads = &one.heads[..];
+    while !heads.is_empty() {
+        let (new_size, new_root, step) = next_head(&mut heads).ok_or(2u64)?;
+        let mut lent = [0; 32 * 32];
+        let old = Inclusion { leaf: &leaf, place, size, root, path: &path };
+        match carry(h, &old, new_size, new_root, step, &mut lent, pair)? {
+            Carried::Path(length) => path = lent[..length].to_vec(),
+            Carried::Collision => return Ok(Settled::Nodes),
+        }
+        (size, root) = (new_size, new_root);
+    }
+    let held = Inclusion { leaf: &leaf, place, size, root, path: &path };
+    match compare(h, &held, &leaf_hash(h, &one.second_page), &one.second_path, pair)? {
+        Compared::Collision => Ok(Settled::Nodes),
+        Compared::Same if one.first.page == one.second_page => Ok(Settled::Same),
+        Compared::Same => Ok(Settled::Pages),
     }
 }
 
-/// The dispute of two page calls of a list, by their places in it: the calls'
-/// arguments and which were accepted, and nothing from the record.
-pub fn dispute_of(h: HashFunction, calls: &[Call], accepted: &[bool], first: usize, second: usize) -> Dispute {
-    let (Call::Page(one), Call::Page(two)) = (&calls[first], &calls[second]) else { panic!("two page calls") };
+/// Two strings that differ and have one hash, where a dispute hands them over.
+pub fn strings(one: &Dispute, settled: Settled, pair: &[u8]) -> Option<(Vec<u8>, Vec<u8>)> {
+    match settled {
+        Settled::Nodes => Some((pair[..65].to_vec(), pair[65..PAIR].to_vec())),
+        Settled::Pages => Some(([&[0], &one.first.page[..]].concat(), [&[0], &one.second_page[..]].concat())),
+        Settled::Same | Settled::Refused(_) => None,
+    }
+}
+
+/// The disputes of a list of calls: each two accepted page calls at one place,
+/// from the calls' arguments and which were accepted, and nothing from the record.
+pub fn disputes(calls: &[Call], accepted: &[bool]) -> Vec<Dispute> {
     let heads = |from: usize, to: usize| {
         calls[from..to].iter().zip(&accepted[from..to]).filter_map(|(call, accepted)| match call {
             Call::Offer(offer) if *accepted => Some(offer),
             _ => None,
         })
     };
-    let held = heads(0, first).next_back().expect("an accepted page has a head");
-    let steps: Vec<Step> = heads(first, second).map(|head| (head.size, &head.root[..], &head.path[..])).collect();
-    dispute(h, one, held.size, &held.root, &steps, two)
+    let mut all = Vec::new();
+    for second in 0..calls.len() {
+        for first in 0..second {
+            let (Call::Page(one), Call::Page(two)) = (&calls[first], &calls[second]) else { continue };
+            if !accepted[first] || !accepted[second] || one.place != two.place {
+                continue;
+            }
+            let held = heads(0, first).next_back().expect("an accepted page has a head");
+            let mut joined = Vec::new();
+            heads(first, second).for_each(|head| join_head(head.size, &head.root, &head.path, &mut joined));
+            all.push(Dispute {
+                first: one.clone(),
+                size: held.size,
+                root: held.root.clone(),
+                heads: joined,
+                second_page: two.page.clone(),
+                second_path: two.path.clone(),
+            });
+        }
+    }
+    all
 }
 
 #[cfg(test)]
@@ -179,8 +292,9 @@ mod tests {
     use super::*;
     use crate::carry::weak;
     use crate::random::Random;
+    use crate::servers::{Kind, Server, KINDS};
     use crate::sha256::digest;
-    use crate::{tree, yields};
+    use crate::tree;
 
     fn head(size: u64, timestamp: u64, root: Hash) -> Record {
         Some(Head { log_id: b"log".to_vec(), timestamp, size, root })
@@ -259,144 +373,35 @@ mod tests {
         assert_eq!(page(digest, &held, &PageCall { page: vec![0; LONGEST_ITEM], ..good }), 8);
     }
 
-    /// A log that is honest, or forges what the hash lets it forge.
-    struct Server {
-        h: HashFunction,
-        pages: Vec<Vec<u8>>,
-        leaves: Vec<Hash>,
-        clock: u64,
-    }
-
-    impl Server {
-        fn grow(&mut self, count: u64, random: &mut Random) {
-            for _ in 0..count {
-                let length = random.below(4) as usize;
-                self.pages.push(random.bytes(length));
-                self.leaves.push(leaf_hash(self.h, self.pages.last().unwrap()));
-            }
-            self.clock += random.below(3);
-        }
-
-        fn offer(&self, held: &Record) -> Offer {
-            let size = self.leaves.len();
-            let path = match held {
-                Some(head) if (1..=size as u64).contains(&head.size) => {
-                    tree::consistency_path(self.h, head.size as usize, &self.leaves).concat()
-                }
-                _ => vec![],
-            };
-            an_offer(size as u64, self.clock, tree::root(self.h, &self.leaves), &path)
-        }
-
-        fn page(&self, held: &Record, random: &mut Random) -> PageCall {
-            let size = held.as_ref().map_or(0, |head| head.size).min(self.leaves.len() as u64);
-            if size == 0 {
-                return PageCall { place: 0, page: vec![], path: vec![] };
-            }
-            let place = random.below(size);
-            let path = tree::path(self.h, place as usize, &self.leaves[..size as usize]).concat();
-            PageCall { place, page: self.pages[place as usize].clone(), path }
-        }
-
-        /// Tries other pages and nodes until the auditor accepts, or gives up.
-        fn forged_page(&self, held: &Record, random: &mut Random) -> PageCall {
-            let Some(head) = held else { return self.page(held, random) };
-            let mut call = self.page(held, random);
-            let keep_path = random.one_in(2);
-            for _ in 0..60 {
-                let length = random.below(4) as usize;
-                call.page = random.bytes(length);
-                if !keep_path {
-                    call.path = (0..yields::inclusion_count(call.place, head.size)).flat_map(|_| (self.h)(&random.bytes(3))).collect();
-                }
-                if page(self.h, held, &call) == 0 {
-                    break;
-                }
-            }
-            call
-        }
-
-        fn forged_offer(&self, held: &Record, random: &mut Random) -> Offer {
-            let Some(head) = held else { return self.offer(held) };
-            let mut offered = self.offer(held);
-            offered.timestamp = offered.timestamp.max(head.timestamp);
-            offered.size = head.size + random.below(6);
-            for _ in 0..600 {
-                let count = if offered.size == head.size { 0 } else { yields::consistency_count(head.size, offered.size) };
-                offered.path = (0..count).flat_map(|_| (self.h)(&random.bytes(3))).collect();
-                offered.root = (self.h)(&random.bytes(3)).to_vec();
-                if offer(self.h, held, &offered).0 == 0 {
-                    break;
-                }
-            }
-            offered
-        }
-    }
-
-    fn spoil(offered: &mut Offer, random: &mut Random) {
-        match random.below(7) {
-            0 => offered.log_id = b"other".to_vec(),
-            1 => offered.size = offered.size.saturating_sub(random.below(3)),
-            2 => offered.timestamp = offered.timestamp.saturating_sub(random.below(3)),
-            3 => offered.root[0] ^= 1,
-            4 => offered.path.truncate(offered.path.len() / 64 * 32),
-            5 => offered.path.extend([0; 32]),
-            _ => offered.path.push(0),
-        }
-    }
-
-    /// Lists of calls with every sort of server. `bad` in ten calls are forged, and as many offers spoilt.
-    fn random_calls(h: HashFunction, count: usize, bad: u64, random: &mut Random) -> Vec<Call> {
-        let mut server = Server { h, pages: vec![], leaves: vec![], clock: 100 };
-        server.grow(3, random);
-        let (mut record, mut calls) = (None, Vec::new());
-        for _ in 0..count {
-            let forged = random.below(10) < bad;
-            let call = if random.one_in(3) {
-                let more = random.below(4);
-                server.grow(more, random);
-                let mut offered = if forged { server.forged_offer(&record, random) } else { server.offer(&record) };
-                if random.below(10) < bad && random.one_in(2) {
-                    spoil(&mut offered, random);
-                }
-                Call::Offer(offered)
-            } else {
-                Call::Page(if forged { server.forged_page(&record, random) } else { server.page(&record, random) })
-            };
-            if let Call::Offer(one) = &call {
-                record = offer(h, &record, one).1;
-            }
-            calls.push(call);
-        }
-        calls
-    }
-
     /// Demand 3 on one list: for any two accepted pages at one place the bytes
     /// are the same, or two strings are handed over that differ and have one hash.
     fn check_list(h: HashFunction, calls: &[Call]) -> [usize; 3] {
         let accepted: Vec<bool> = run(h, calls).iter().map(|(number, _)| *number == 0).collect();
         let mut met = [0; 3];
-        for second in 0..calls.len() {
-            for first in 0..second {
-                let (Call::Page(one), Call::Page(two)) = (&calls[first], &calls[second]) else { continue };
-                if !accepted[first] || !accepted[second] || one.place != two.place {
-                    continue;
+        for one in disputes(calls, &accepted) {
+            let mut pair = [8; PAIR + 1];
+            let settled = dispute(h, &one, &mut pair);
+            match strings(&one, settled, &pair) {
+                Some((a, b)) => {
+                    assert_ne!(a, b);
+                    assert_eq!(h(&a), h(&b));
                 }
-                match dispute_of(h, calls, &accepted, first, second) {
-                    Dispute::Same => {
-                        assert_eq!(one.page, two.page);
-                        met[0] += 1;
-                    }
-                    Dispute::Strings(a, b) => {
-                        assert_ne!(a, b);
-                        assert_eq!(h(&a), h(&b));
-                        met[if a[0] == 1 { 1 } else { 2 }] += 1;
-                    }
-                    Dispute::Refused(number) => panic!("refused with {number}"),
-                }
+                None => assert_eq!(one.first.page, one.second_page),
             }
+            assert!(settled == Settled::Nodes && pair[PAIR] == 8 || pair == [8; PAIR + 1]);
+            met[match settled {
+                Settled::Same => 0,
+                Settled::Nodes => 1,
+                Settled::Pages => 2,
+                Settled::Refused(number) => panic!("refused with {number}"),
+            }] += 1;
         }
         met
+    }
+
+    fn some_calls(h: HashFunction, kind: Kind, bits: u64, tries: usize, random: &mut Random) -> Vec<Call> {
+        let most = 1 << random.below(bits + 1);
+        Server::random(h, kind, most, random).calls(40, tries, random)
     }
 
     /// Every offer and every page after the first offer is accepted.
@@ -405,7 +410,7 @@ mod tests {
         let random = &mut Random::new(3);
         let mut all = 0;
         for _ in 0..20 {
-            let calls = random_calls(digest, 40, 0, random);
+            let calls = some_calls(digest, Kind::Honest, 32, 0, random);
             let refused = run(digest, &calls).into_iter().find(|(number, _)| *number != 0 && *number != 14);
             assert_eq!(refused, None);
             let [same, nodes, pages] = check_list(digest, &calls);
@@ -419,23 +424,25 @@ mod tests {
     fn forging_log() {
         let random = &mut Random::new(33);
         let mut met = [0; 3];
-        for _ in 0..60 {
-            let calls = random_calls(weak, 40, 5, random);
-            for (all, one) in met.iter_mut().zip(check_list(weak, &calls)) {
-                *all += one;
+        for kind in KINDS {
+            for _ in 0..30 {
+                for (all, one) in met.iter_mut().zip(check_list(weak, &some_calls(weak, kind, 6, 60, random))) {
+                    *all += one;
+                }
             }
         }
         assert!(met.iter().all(|count| *count > 50), "{met:?}");
     }
 
     /// Sizes never fall and timestamps never go back; a refusal changes nothing.
+    /// The record as it is kept answers as the paper's does.
     #[test]
     fn records_only_grow() {
         let random = &mut Random::new(333);
         for _ in 0..40 {
-            let calls = random_calls(weak, 40, 5, random);
-            let mut before: Record = None;
-            for (number, after) in run(weak, &calls) {
+            let calls = some_calls(weak, Kind::Forging, 6, 60, random);
+            let (mut before, mut stored): (Record, Stored) = (None, Stored::EMPTY);
+            for (call, (number, after)) in calls.iter().zip(run(weak, &calls)) {
                 if number != 0 {
                     assert_eq!(before, after);
                 }
@@ -443,8 +450,57 @@ mod tests {
                     assert!(new.size >= old.size && new.timestamp >= old.timestamp && new.log_id == old.log_id);
                 }
                 assert!(before.is_none() || after.is_some());
+                match call {
+                    Call::Offer(one) => {
+                        let (answer, next) = stored.offer(weak, one);
+                        assert_eq!(answer, number);
+                        stored = next;
+                    }
+                    Call::Page(one) => assert_eq!(stored.page(weak, one), number),
+                }
+                assert_eq!(stored.head(), after);
                 before = after;
             }
+        }
+    }
+
+    /// A head is cut wherever it ends before its last node.
+    #[test]
+    fn heads_are_taken_off() {
+        let mut joined = Vec::new();
+        join_head(0x0102030405060708, &[9; 32], &[7; 64], &mut joined);
+        assert_eq!(joined[..8], [1, 2, 3, 4, 5, 6, 7, 8]);
+        assert_eq!(joined[40..42], [0, 2]);
+        assert_eq!(joined.len(), 42 + 64);
+        for length in 0..joined.len() {
+            assert_eq!(next_head(&mut &joined[..length]), None);
+        }
+        join_head(5, &[1; 32], &[], &mut joined);
+        let mut rest = &joined[..];
+        assert_eq!(next_head(&mut rest), Some((0x0102030405060708, &[9; 32][..], &[7; 64][..])));
+        assert_eq!(next_head(&mut rest), Some((5, &[1; 32][..], &[][..])));
+        assert!(rest.is_empty());
+    }
+
+    #[test]
+    fn long_pages_in_disputes() {
+        let leaf = leaf_hash(digest, b"page");
+        let good = Dispute {
+            first: PageCall { place: 0, page: b"page".to_vec(), path: vec![] },
+            size: 1,
+            root: leaf.to_vec(),
+            heads: vec![],
+            second_page: b"page".to_vec(),
+            second_path: vec![],
+        };
+        assert_eq!(dispute(digest, &good, &mut [0; 130]), Settled::Same);
+        let long = |length: usize| vec![0; LONGEST_ITEM + length];
+        let first = |length: usize| Dispute { first: PageCall { page: long(length), ..good.first.clone() }, ..good.clone() };
+        let second = |length: usize| Dispute { second_page: long(length), ..good.clone() };
+        assert_eq!(dispute(digest, &first(0), &mut [0; 130]), Settled::Refused(8));
+        assert_eq!(dispute(digest, &second(0), &mut [0; 130]), Settled::Refused(8));
+        for one in [first(1), second(1)] {
+            assert_eq!(dispute(digest, &Dispute { root: vec![], heads: vec![0], ..one }, &mut []), Settled::Refused(1));
         }
     }
 }

@@ -29,7 +29,7 @@ pub enum Compared {
     Collision,
 }
 
-fn parts(leaves: &Leaves) -> (Leaves, Leaves) {
+pub fn parts(leaves: &Leaves) -> (Leaves, Leaves) {
     let middle = leaves.start + split(leaves.end - leaves.start);
     (leaves.start..middle, middle..leaves.end)
 }

@@ -7,6 +7,7 @@ pub mod item;
 pub mod proofs;
 pub mod random;
 pub mod requests;
+pub mod servers;
 pub mod sha256;
 pub mod tree;
 pub mod vectors;
@@ -18,6 +19,7 @@ pub mod yields;
 pub mod layers {
     //! One module a layer: its requests, their answers, its cases and its
     //! random requests.
+    pub mod auditor;
     pub mod carry;
     pub mod hash;
     pub mod item;

@@ -1,5 +1,5 @@
 //! Commands:
-//!   cases DIR [LAYER ..]   write DIR/stdin and DIR/stdout, the committed files, of these layers or of all
+//!   cases DIR [LAYER ..]   write DIR/LAYER/stdin and DIR/LAYER/stdout, the committed files, of these layers or of all
 //!   run LAYER SEED COUNT   write random requests to standard output
 //!   full LAYER             write the large run's requests to standard output
 //!   answer [LAYER]         read requests from standard input, write the answers
@@ -52,13 +52,16 @@ fn run(arguments: &[&str]) -> Option<io::Result<()>> {
 }
 
 fn write_cases(layers: &[&Layer], dir: &Path) -> io::Result<()> {
-    let mut questions = Vec::new();
-    layers.iter().for_each(|layer| (layer.cases)(&mut Requests::new(&mut questions)));
-    let mut answers = Vec::new();
-    write_answers(layers, &mut &questions[..], &mut answers)?;
-    std::fs::create_dir_all(dir)?;
-    std::fs::write(dir.join("stdin"), questions)?;
-    std::fs::write(dir.join("stdout"), answers)
+    for layer in layers {
+        let (mut questions, mut answers) = (Vec::new(), Vec::new());
+        (layer.cases)(&mut Requests::new(&mut questions));
+        write_answers(&[layer], &mut &questions[..], &mut answers)?;
+        let dir = dir.join(layer.name);
+        std::fs::create_dir_all(&dir)?;
+        std::fs::write(dir.join("stdin"), questions)?;
+        std::fs::write(dir.join("stdout"), answers)?;
+    }
+    Ok(())
 }
 
 fn write_answers(layers: &[&Layer], input: &mut dyn BufRead, out: &mut dyn Write) -> io::Result<()> {

@@ -3,6 +3,7 @@
 use crate::layers;
 use crate::random::Random;
 use crate::words::{read_line, write_line, Word};
+use std::collections::VecDeque;
 use std::io::Write;
 
 pub struct Entry {
@@ -13,9 +14,14 @@ pub struct Entry {
     pub random: fn(&mut Random) -> Vec<Word>,
 }
 
+/// A request: the entry's name and its arguments.
+pub type Asked = (&'static str, Vec<Word>);
+
 pub struct Layer {
     pub name: &'static str,
     pub entries: &'static [Entry],
+    /// Random requests that belong together, each made from the answers before it.
+    pub lists: Option<fn(&mut Random) -> Vec<Asked>>,
     /// The committed requests.
     pub cases: fn(&mut Requests),
     /// A large run without chance.
@@ -23,7 +29,7 @@ pub struct Layer {
 }
 
 /// Every layer. A new one adds its module and its line here.
-pub static LAYERS: &[&Layer] = &[&layers::hash::LAYER, &layers::tree::LAYER, &layers::carry::LAYER, &layers::item::LAYER];
+pub static LAYERS: &[&Layer] = &[&layers::hash::LAYER, &layers::tree::LAYER, &layers::carry::LAYER, &layers::item::LAYER, &layers::auditor::LAYER];
 
 pub fn layer(name: &str) -> Option<&'static Layer> {
     LAYERS.iter().copied().find(|layer| layer.name == name)
@@ -71,10 +77,17 @@ fn answer_words(layers: &[&Layer], line: &[u8]) -> Option<Vec<Word>> {
 /// Random requests of a layer; about one line in twenty is damaged.
 pub fn random_run(layer: &Layer, seed: u64, count: u64, out: &mut dyn Write) {
     let mut random = Random::new(seed);
+    let mut list: VecDeque<Asked> = VecDeque::new();
     for _ in 0..count {
-        let entry = random.pick(layer.entries);
+        if let (true, Some(lists)) = (list.is_empty() && random.one_in(2), layer.lists) {
+            list.extend(lists(&mut random));
+        }
+        let (name, words) = list.pop_front().unwrap_or_else(|| {
+            let entry = random.pick(layer.entries);
+            (entry.name, (entry.random)(&mut random))
+        });
         let mut line = Vec::new();
-        write_line(Some(entry.name), &(entry.random)(&mut random), &mut line);
+        write_line(Some(name), &words, &mut line);
         line.pop();
         if random.one_in(20) {
             damage(&mut line, &mut random);
@@ -162,11 +175,14 @@ mod tests {
 
     #[test]
     fn committed_files_stay_small() {
-        let all = || written(|requests| LAYERS.iter().for_each(|layer| (layer.cases)(requests)));
-        let requests = all();
-        let answers = answers(LAYERS, &requests);
-        assert!(requests.len() + answers.len() < 1_000_000, "{} and {}", requests.len(), answers.len());
-        assert_eq!(requests, all());
+        for layer in LAYERS {
+            let requests = written(layer.cases);
+            let answers = answers(&[layer], &requests);
+            let (asked, answered) = (requests.len(), answers.len());
+            println!("{}: {} requests, {asked} and {answered} bytes", layer.name, requests.iter().filter(|c| **c == b'\n').count());
+            assert!(asked + answered < 1_000_000, "{}: {asked} and {answered}", layer.name);
+            assert_eq!(requests, written(layer.cases));
+        }
     }
 
     #[test]

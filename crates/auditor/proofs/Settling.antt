@@ -22,7 +22,8 @@ use Rattle.tree.proofs.Accepting.{inclusion-accepted, consistency-accepted}
 use Rattle.carry.specs.Strings.{Collides}
 use Rattle.carry.specs.Forward.{Forward, carry}
 use Rattle.carry.specs.Compare.{Comparison, compare}
-use Rattle.carry.proofs.Comparing.{opened, fitted, is-equal, comparing}
+use Rattle.carry.proofs.Comparing.{opened, is-equal, comparing}
+use Rattle.carry.proofs.Refusing.{passed}
 use Rattle.carry.proofs.Carrying.{carrying}
 use Rattle.auditor.specs.declared.dispute.Settled.the-variants.{Refused}
 use Rattle.auditor.specs.Held.{Held, empty, head, none}
@@ -92,7 +93,7 @@ module _ (H : List ℕ → List ℕ) where
   same-leaves H32 place m r leaf₁ p leaf₂ q pair e =
       let a = opened _ _ _ e is-equal in
       let b = opened _ _ _ (a .1) is-equal in
-      let c = fitted (ltb pair 130) 9 _ _ (b .1) is-equal in
+      let c = passed Comparison.refused Comparison.equal is-equal (ltb pair 130) 9 _ (b .1) in
       comparing H H32 .compares place m r leaf₁ p leaf₂ q pair .same (a .0) (b .0) (ltb-false pair 130 (c .0)) .0 e .0
 
   module _ (H32 : (s : List ℕ) → length (H s) ≡ 32) (place : ℕ) (page₁ page₂ path₂ : List ℕ) (pair : ℕ) where

@@ -3,10 +3,11 @@
 use mathlib.Core.Path.{_≡_}
 use mathlib.Core.Bool.{cond}
 use mathlib.Core.List.{List, _∷_, _++_}
-use Prim.Native.Nat.{ℕ}
+use Prim.Native.Nat.{ℕ, _*_}
 use lib.Dec.{ltb, eqb}
 use lib.ListN.{length, take, drop}
 use Rattle.hash.specs.Answers.{mostItem}
+use Rattle.tree.specs.Limits.{mostNodes}
 use Rattle.tree.specs.Build.{over}
 use Rattle.tree.specs.Joined.{same}
 use Rattle.tree.specs.Verdict.{inclusionVerdict}
@@ -18,7 +19,7 @@ use Rattle.auditor.specs.Heads.{Heads, end, cut, then}
 
 -- the bytes of the longest inclusion path
 abbrev pub longestPath : ℕ
-longestPath = 1024
+longestPath = 32 * mostNodes
 
 -- it refuses with a number of document 01, finds the pages the same, or hands over two strings: of nodes, or the two pages with 0x00 before each
 pub data Finding : Type 0 where

@@ -26,11 +26,7 @@ pub(crate) fn copy(s: &[u8], out: &mut [u8])
     requires { ⌜ length (now s) ≤ length (now out) ⌝ }
     ensures { λ _. ⌜ now (out .exit) ≡ over (now (s .entry)) (now (out .entry)) ⌝ }
 {
-    let mut i = 0;
-    while i < s.len() {
-        out[i] = s[i];
-        i += 1;
-    }
+    tree::nodes::copy(s, 0, s.len(), out, 0);
 }
 
 // A log id, with zeros after it.

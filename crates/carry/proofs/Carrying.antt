@@ -11,12 +11,13 @@ use lib.Seq.{take-add}
 use borrow.Author.Tests.{lt-ltb, le-ltb, eq-eqb, ne-eqb, eqb-true}
 use Rattle.tree.specs.Count.{inclusionCount, subproofCount, consistencyCount}
 use Rattle.tree.specs.Yield.{inclusionRoot, oldRoot, newRoot}
-use Rattle.tree.specs.Joined.{firstNodes, nodes, nodesFrom, joined, nodeAt}
+use Rattle.tree.specs.Joined.{firstNodes, nodes, nodesFrom, joined, hashAt}
 use Rattle.tree.specs.Verdict.{inclusionVerdict, consistencyVerdict}
 use Rattle.tree.specs.Build.{over}
 use Rattle.tree.proofs.Counting.{bounds}
 use Rattle.tree.proofs.Accepting.{inclusion-accepted, inclusion-accepts, consistency-accepted, consistency-accepts}
-use Rattle.tree.proofs.Joining.{All32, nodes-first, nodes-length, all-nodes, whole-node, first-length, joined-append, joined-length, nodes-joined}
+use Rattle.tree.proofs.Joining.{All32, nodes-first, nodes-length, all-nodes, whole-hash, first-length, joined-append, joined-length, nodes-joined}
+use Rattle.carry.proofs.Refusing.{accepted, passed}
 use Rattle.carry.specs.declared.forward.Carried.the-variants.{Path, Collision, Refused}
 use Rattle.carry.specs.Strings.{Difference, alike, apart, Collides}
 use Rattle.carry.specs.Forward.{Forward, refused, carried, collision, answer, pathAfter, pairAfter, unless, settled, conflict, forward, carry}
@@ -100,12 +101,12 @@ unfolding answer pathAfter pairAfter settled
 tells-path u o b e f h i g = rw (e, f, h, i, g) (refl, (refl, refl))
 
 -- what the code walked, of the bytes as they came
-module _ (H : List ℕ → List ℕ) (leaf : List ℕ) (place m n : ℕ) (root₁ path proof : List ℕ) (two : Both leaf place m n root₁ path proof) {h f : List ℕ} (eh : h ≡ nodeAt 0 leaf) (ef : f ≡ nodeAt 0 root₁) where
+module _ (H : List ℕ → List ℕ) (leaf : List ℕ) (place m n : ℕ) (root₁ path proof : List ℕ) (two : Both leaf place m n root₁ path proof) {h f : List ℕ} (eh : h ≡ hashAt 0 leaf) (ef : f ≡ hashAt 0 root₁) where
   pub met-walked : {d : Difference} → d ≡ conflict H m n place h (firstNodes (length path / 32) path) f (firstNodes (length proof / 32) proof) → d ≡ conflict H m n place leaf (nodes path) root₁ (nodes proof)
-  met-walked e = e ∙ rw (eh, ef, whole-node leaf (two .leaf-32), whole-node root₁ (two .root-32), nodes-first path, nodes-first proof)
+  met-walked e = e ∙ rw (eh, ef, whole-hash leaf (two .leaf-32), whole-hash root₁ (two .root-32), nodes-first path, nodes-first proof)
 
   pub path-walked : {p : List (List ℕ)} → p ≡ forward H m n place (firstNodes (length path / 32) path) f (firstNodes (length proof / 32) proof) → p ≡ forward H m n place (nodes path) root₁ (nodes proof)
-  path-walked e = e ∙ rw (ef, whole-node root₁ (two .root-32), nodes-first path, nodes-first proof)
+  path-walked e = e ∙ rw (ef, whole-hash root₁ (two .root-32), nodes-first path, nodes-first proof)
 
 joined-take : (k : ℕ) (s : List ℕ) → joined (firstNodes k s) ≡ take (32 * k) s
 unfolding firstNodes joined
@@ -173,12 +174,12 @@ module _ (H : List ℕ → List ℕ) (leaf : List ℕ) (place m n : ℕ) (root�
       }
 
   -- the roots that the code finds are those that the proofs yield
-  module _ (fit : Fit (length leaf) place m n (length root₁) (length root₂) (length path) (length proof)) {h f one two whole : List ℕ} (eh : h ≡ nodeAt 0 leaf) (ef : f ≡ nodeAt 0 root₁)
+  module _ (fit : Fit (length leaf) place m n (length root₁) (length root₂) (length path) (length proof)) {h f one two whole : List ℕ} (eh : h ≡ hashAt 0 leaf) (ef : f ≡ hashAt 0 root₁)
       (e₁ : one ≡ inclusionRoot H place m h (firstNodes (length path / 32) path)) (e₂ : two ≡ oldRoot H m n true f (firstNodes (length proof / 32) proof)) (e₃ : whole ≡ newRoot H m n true f (firstNodes (length proof / 32) proof)) where
     yielded : (one ≡ inclusionRoot H place m leaf (nodes path)) × ((two ≡ oldRoot H m n true root₁ (nodes proof)) × (whole ≡ newRoot H m n true root₁ (nodes proof)))
     yielded = (
-      e₁ ∙ rw (eh, whole-node leaf (fit .leaf-32), nodes-first path),
-      (e₂ ∙ rw (ef, whole-node root₁ (fit .old-32), nodes-first proof), e₃ ∙ rw (ef, whole-node root₁ (fit .old-32), nodes-first proof)),
+      e₁ ∙ rw (eh, whole-hash leaf (fit .leaf-32), nodes-first path),
+      (e₂ ∙ rw (ef, whole-hash root₁ (fit .old-32), nodes-first proof), e₃ ∙ rw (ef, whole-hash root₁ (fit .old-32), nodes-first proof)),
     )
 
     pub agree-of : N₁ ≡ 0 → N₂ ≡ 0 → Agree one two whole root₁ root₂
@@ -218,15 +219,7 @@ module _ (H : List ℕ → List ℕ) (leaf : List ℕ) (place m n : ℕ) (root�
 
 opened : (v : ℕ) (c d : Forward) → unless v c ≡ d → ((n : ℕ) → d ≡ refused n → ⊥) → (v ≡ 0) × (c ≡ d)
 unfolding unless
-opened v c d e h = let p = go (eqb v 0) e in (eqb-true v 0 (p .0), p .1)
-  where
-    go : (b : Bool) → cond b c (refused v) ≡ d → (b ≡ true) × (c ≡ d)
-    go true f = (refl, f)
-    go false f = absurd (h v (sym f))
-
-fitted : (b : Bool) (n : ℕ) (c d : Forward) → cond b (refused n) c ≡ d → ((n : ℕ) → d ≡ refused n → ⊥) → (b ≡ false) × (c ≡ d)
-fitted true n c d e h = absurd (h n (sym e))
-fitted false n c d e h = (refl, e)
+opened v c d e h = accepted refused d h v c e
 
 is-collision : (s t : List ℕ) (n : ℕ) → collision s t ≡ refused n → ⊥
 is-collision s t n e = let z : _≡_ {A = ℕ} 0 1 = cc in omega arith
@@ -297,15 +290,15 @@ module _ (H : List ℕ → List ℕ) (H32 : (s : List ℕ) → length (H s) ≡ 
       accepted = λ w e.
           let a = opened (inclusionVerdict H leaf place m root₁ path) _ _ e (is-carried w) in
           let b = opened (consistencyVerdict H m n root₁ root₂ proof) _ _ (a .1) (is-carried w) in
-          let c = fitted (ltb room (32 * inclusionCount place n)) 9 _ _ (b .1) (is-carried w) in
-          let d = fitted (ltb pair 130) 9 _ _ (c .1) (is-carried w) in
+          let c = passed refused (carried w) (is-carried w) (ltb room (32 * inclusionCount place n)) 9 _ (b .1) in
+          let d = passed refused (carried w) (is-carried w) (ltb pair 130) 9 _ (c .1) in
           let f = settled-alike (conflict H m n place leaf (nodes path) root₁ (nodes proof)) (joined (forward H m n place (nodes path) root₁ (nodes proof))) w (d .1) in
           ap (inclusionVerdict H leaf place n root₂) (sym (f .1)) ∙ again leaf place m n root₁ root₂ path proof (a .0) (b .0) (f .0);
       collides = λ s t e.
           let a = opened (inclusionVerdict H leaf place m root₁ path) _ _ e (is-collision s t) in
           let b = opened (consistencyVerdict H m n root₁ root₂ proof) _ _ (a .1) (is-collision s t) in
-          let c = fitted (ltb room (32 * inclusionCount place n)) 9 _ _ (b .1) (is-collision s t) in
-          let d = fitted (ltb pair 130) 9 _ _ (c .1) (is-collision s t) in
+          let c = passed refused (collision s t) (is-collision s t) (ltb room (32 * inclusionCount place n)) 9 _ (b .1) in
+          let d = passed refused (collision s t) (is-collision s t) (ltb pair 130) 9 _ (c .1) in
           let f = settled-apart (conflict H m n place leaf (nodes path) root₁ (nodes proof)) (joined (forward H m n place (nodes path) root₁ (nodes proof))) s t (d .1) in
           apart-right _ _ _ s t f (shown leaf place m n root₁ root₂ path proof (a .0) (b .0));
       reports = λ s t e f r l.

@@ -9,11 +9,12 @@ use lib.Dec.{ltb, eqb}
 use lib.ListN.{length, take, drop, length-drop, take-append-drop}
 use borrow.Author.Tests.{lt-ltb, le-ltb, eq-eqb, ne-eqb, eqb-true}
 use Rattle.tree.specs.Count.{inclusionCount}
-use Rattle.tree.specs.Joined.{firstNodes, nodes, joined, nodeAt}
+use Rattle.tree.specs.Joined.{firstNodes, nodes, joined, hashAt}
 use Rattle.tree.specs.Verdict.{inclusionVerdict}
 use Rattle.tree.specs.Build.{over}
 use Rattle.tree.proofs.Accepting.{inclusion-accepted}
-use Rattle.tree.proofs.Joining.{nodes-first, nodes-length, all-nodes, whole-node}
+use Rattle.tree.proofs.Joining.{nodes-first, nodes-length, all-nodes, whole-hash}
+use Rattle.carry.proofs.Refusing.{accepted, passed}
 use Rattle.carry.specs.declared.compare.Compared.the-variants.{Same, Collision, Refused}
 use Rattle.carry.specs.Strings.{Difference, alike, apart, Collides}
 use Rattle.carry.specs.Compare.{Comparison, refused, equal, collision, answer, pairAfter, unless, found, differ, compare}
@@ -80,24 +81,16 @@ tells-apart b e f g = rw (e, f, g) (refl, refl)
 
 -- what the code met, of the bytes as they came
 pub met-bytes : (H : List ℕ → List ℕ) (place n : ℕ) (leaf₁ path₁ leaf₂ path₂ : List ℕ) {d : Difference} {h g : List ℕ} → d ≡ differ H place n h (firstNodes (length path₁ / 32) path₁) g (firstNodes (length path₁ / 32) path₂) →
-    h ≡ nodeAt 0 leaf₁ → length leaf₁ ≡ 32 → g ≡ nodeAt 0 leaf₂ → length leaf₂ ≡ 32 → length path₁ / 32 ≡ length path₂ / 32 → d ≡ differ H place n leaf₁ (nodes path₁) leaf₂ (nodes path₂)
+    h ≡ hashAt 0 leaf₁ → length leaf₁ ≡ 32 → g ≡ hashAt 0 leaf₂ → length leaf₂ ≡ 32 → length path₁ / 32 ≡ length path₂ / 32 → d ≡ differ H place n leaf₁ (nodes path₁) leaf₂ (nodes path₂)
 met-bytes H place n leaf₁ path₁ leaf₂ path₂ e p l₁ q l₂ c =
-    e ∙ rw (p, q, whole-node leaf₁ l₁, whole-node leaf₂ l₂, nodes-first path₁, nodes-first path₂, c)
+    e ∙ rw (p, q, whole-hash leaf₁ l₁, whole-hash leaf₂ l₂, nodes-first path₁, nodes-first path₂, c)
 
 -- ---- the claims
 
 -- a verdict that is not 0 is the answer
 pub opened : (v : ℕ) (c d : Comparison) → unless v c ≡ d → ((n : ℕ) → d ≡ refused n → ⊥) → (v ≡ 0) × (c ≡ d)
 unfolding unless
-opened v c d e h = let p = go (eqb v 0) e in (eqb-true v 0 (p .0), p .1)
-  where
-    go : (b : Bool) → cond b c (refused v) ≡ d → (b ≡ true) × (c ≡ d)
-    go true f = (refl, f)
-    go false f = absurd (h v (sym f))
-
-pub fitted : (b : Bool) (n : ℕ) (c d : Comparison) → cond b (refused n) c ≡ d → ((n : ℕ) → d ≡ refused n → ⊥) → (b ≡ false) × (c ≡ d)
-fitted true n c d e h = absurd (h n (sym e))
-fitted false n c d e h = (refl, e)
+opened v c d e h = accepted refused d h v c e
 
 is-collision : (s t : List ℕ) (n : ℕ) → collision s t ≡ refused n → ⊥
 is-collision s t n e = let z : _≡_ {A = ℕ} 0 1 = cc in omega arith
@@ -146,7 +139,7 @@ module _ (H : List ℕ → List ℕ) (H32 : (s : List ℕ) → length (H s) ≡ 
       collides = λ s t e.
           let a = opened (inclusionVerdict H leaf₁ place n root path₁) _ _ e (is-collision s t) in
           let b = opened (inclusionVerdict H leaf₂ place n root path₂) _ _ (a .1) (is-collision s t) in
-          let c = fitted (ltb room 130) 9 _ _ (b .1) (is-collision s t) in
+          let c = passed refused (collision s t) (is-collision s t) (ltb room 130) 9 _ (b .1) in
           let d = found-apart (differ H place n leaf₁ (nodes path₁) leaf₂ (nodes path₂)) s t (c .1) in
           apart-shows leaf₁ (nodes path₁) leaf₂ (nodes path₂) _ s t d (shown place n root leaf₁ path₁ leaf₂ path₂ (a .0) (b .0));
       same = λ e f l. (

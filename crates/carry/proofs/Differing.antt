@@ -12,8 +12,8 @@ use Rattle.tree.specs.Count.{inclusionCount}
 use Rattle.tree.specs.Yield.{init, last, inclusionRoot}
 use Rattle.tree.specs.Joined.{same}
 use Rattle.tree.proofs.Splitting.{lt-or-ge, split-ends, by-splits}
-use Rattle.tree.proofs.Rfc.{yields-one, yields-low, yields-high}
-use Rattle.tree.proofs.Counting.{count-one, count-low, count-high}
+use Rattle.tree.proofs.Rfc.{yields-few, yields-low, yields-high}
+use Rattle.tree.proofs.Counting.{count-few, count-low, count-high}
 use Rattle.tree.proofs.Joining.{All32, same-refl, same-of}
 use Rattle.carry.specs.Strings.{string, Difference, alike, apart, topmost, Collides}
 use Rattle.carry.specs.Compare.{differ}
@@ -58,8 +58,8 @@ module _ (H : List ℕ → List ℕ) where
     one-leaf : Sound 1
     unfolding Sound
     one-leaf m h p g q lt lh lg ap aq cp cq e =
-        let k = count-one m in
-        rw (differ-one H m 1 h p g q refl) (sym (yields-one H m h p) ∙ e ∙ yields-one H m g q, nothing p (omega arith) ∙ sym (nothing q (omega arith)))
+        let k = count-few m 1 (omega arith) in
+        rw (differ-one H m 1 h p g q refl) (sym (yields-few H m 1 h p (omega arith)) ∙ e ∙ yields-few H m 1 g q (omega arith), nothing p (omega arith) ∙ sym (nothing q (omega arith)))
 
     module _ (n : ℕ) (more : 1 < n) (m : ℕ) (h : List ℕ) (p : List (List ℕ)) (g : List ℕ) (q : List (List ℕ)) (lt : m < n) (lh : length h ≡ 32) (lg : length g ≡ 32) (ap : All32 p) (aq : All32 q) (cp : length p ≡ inclusionCount m n) (cq : length q ≡ inclusionCount m n) (e : inclusionRoot H m n h p ≡ inclusionRoot H m n g q) where
       low : m < split n → Sound (split n) → Shows h p g q (differ H m n h p g q)

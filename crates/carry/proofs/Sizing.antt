@@ -12,7 +12,7 @@ use Rattle.tree.specs.Tree.{node}
 use Rattle.tree.specs.Count.{subproofCount}
 use Rattle.tree.specs.Yield.{init, last, inclusionRoot, consistencyRootOf, oldRoot, newRoot}
 use Rattle.tree.proofs.Splitting.{lt-or-ge, by-splits}
-use Rattle.tree.proofs.Rfc.{yields-one, yields-low, yields-high, either-all, either-low, either-high}
+use Rattle.tree.proofs.Rfc.{yields-few, yields-low, yields-high, either-all, either-low, either-high}
 use Rattle.tree.proofs.Counting.{sub-all, sub-low}
 use Rattle.tree.proofs.Joining.{All32, all-take}
 use Rattle.carry.specs.Strings.{string}
@@ -46,7 +46,7 @@ module _ (H : List ℕ → List ℕ) (H32 : (s : List ℕ) → length (H s) ≡ 
   pub inclusion-32 : (m n : ℕ) (h : List ℕ) (p : List (List ℕ)) → 0 < n → length h ≡ 32 → length (inclusionRoot H m n h p) ≡ 32
   inclusion-32 m n h p z e =
       ⊎-elim (λ more. ⊎-elim (λ l. rw (yields-low H m n h p more l) (node-32 _ _)) (λ l. rw (yields-high H m n h p more l) (node-32 _ _)) (lt-or-ge m (split n)))
-      (λ (single : n ≤ 1). let d : n ≡ 1 = omega arith in rw (d, yields-one H m h p) e)
+      (λ (single : n ≤ 1). rw (yields-few H m n h p single) e)
       (lt-or-ge 1 n)
 
   -- where all is old: the first root, or the one node
@@ -56,7 +56,7 @@ module _ (H : List ℕ → List ℕ) (H32 : (s : List ℕ) → length (H s) ≡ 
 
   module _ (m n : ℕ) (b : Bool) (f : List ℕ) (q : List (List ℕ)) (z : 0 < m) (e : b ≡ true → length f ≡ 32) (a : All32 q) (l : length q ≡ subproofCount m n b) where
     all-32 : (beside : List ℕ → List ℕ → List ℕ) → m ≡ n → length (consistencyRootOf H beside (shape n) m b f q) ≡ 32
-    all-32 beside d = rw (either-all H beside m n b f q z d) (whole-32 b f q e a (l ∙ sub-all m n b z d))
+    all-32 beside d = rw (either-all H beside m n b f q z d) (whole-32 b f q e a (l ∙ sub-all m n b d))
 
     pub new-32 : m ≤ n → length (newRoot H m n b f q) ≡ 32
     unfolding newRoot

@@ -10,6 +10,7 @@ use lib.Seq.{take-suc, take-length, take-all, drop-drop}
 use Rattle.tree.specs.Split.{split}
 use Rattle.tree.specs.Yield.{init, last, inclusionRoot, oldRoot, newRoot}
 use Rattle.tree.specs.Joined.{firstNodes, nodeAt, nodesFrom}
+use Rattle.tree.proofs.Yielding.{included-low, included-high}
 use Rattle.tree.proofs.Joining.{first-length, init-first, last-first}
 use Rattle.carry.specs.Strings.{string, Difference, alike, topmost}
 use Rattle.carry.specs.Compare.{differ}
@@ -38,15 +39,29 @@ from-more i q s h =
 module _ (H : List ℕ → List ℕ) where
   -- comparing: two paths of j nodes, joined in s and t
   module _ (m n k : ℕ) (h g : List ℕ) (j : ℕ) (s t : List ℕ) (some : 0 < j) (more : 1 < n) (cut : k ≡ split n) {u x v y : List ℕ} {below : Difference} where
-    pub met-low : m < k → u ≡ inclusionRoot H m k h (firstNodes (j - 1) s) → x ≡ nodeAt (j - 1) s → v ≡ inclusionRoot H m k g (firstNodes (j - 1) t) → y ≡ nodeAt (j - 1) t →
+    met-low : m < k → u ≡ inclusionRoot H m k h (firstNodes (j - 1) s) → x ≡ nodeAt (j - 1) s → v ≡ inclusionRoot H m k g (firstNodes (j - 1) t) → y ≡ nodeAt (j - 1) t →
         below ≡ differ H m k h (firstNodes (j - 1) s) g (firstNodes (j - 1) t) → topmost (string u x) (string v y) below ≡ differ H m n h (firstNodes j s) g (firstNodes j t)
     met-low l pu px pv py pb =
         rw (pu, px, pv, py, pb, differ-low H m n h (firstNodes j s) g (firstNodes j t) more (omega arith), init-first j s some, last-first j s some, init-first j t some, last-first j t some, cut)
 
-    pub met-high : k ≤ m → x ≡ nodeAt (j - 1) s → u ≡ inclusionRoot H (m - k) (n - k) h (firstNodes (j - 1) s) → y ≡ nodeAt (j - 1) t → v ≡ inclusionRoot H (m - k) (n - k) g (firstNodes (j - 1) t) →
+    met-high : k ≤ m → x ≡ nodeAt (j - 1) s → u ≡ inclusionRoot H (m - k) (n - k) h (firstNodes (j - 1) s) → y ≡ nodeAt (j - 1) t → v ≡ inclusionRoot H (m - k) (n - k) g (firstNodes (j - 1) t) →
         below ≡ differ H (m - k) (n - k) h (firstNodes (j - 1) s) g (firstNodes (j - 1) t) → topmost (string x u) (string y v) below ≡ differ H m n h (firstNodes j s) g (firstNodes j t)
     met-high l px pu py pv pb =
         rw (pu, px, pv, py, pb, differ-high H m n h (firstNodes j s) g (firstNodes j t) more (omega arith), init-first j s some, last-first j s some, init-first j t some, last-first j t some, cut)
+
+    -- both roots, and what was met
+    module _ {p q : List ℕ} {d : Difference} where
+      pub level-low : m < k → x ≡ nodeAt (j - 1) s → y ≡ nodeAt (j - 1) t → (u ≡ inclusionRoot H m k h (firstNodes (j - 1) s)) × ((v ≡ inclusionRoot H m k g (firstNodes (j - 1) t)) × (below ≡ differ H m k h (firstNodes (j - 1) s) g (firstNodes (j - 1) t))) →
+          (p ≡ H (string u x)) × (q ≡ H (string v y)) → d ≡ topmost (string u x) (string v y) below →
+          (p ≡ inclusionRoot H m n h (firstNodes j s)) × ((q ≡ inclusionRoot H m n g (firstNodes j t)) × (d ≡ differ H m n h (firstNodes j s) g (firstNodes j t)))
+      level-low l px py b e f =
+          (included-low H m n k h j s some more cut (e .0) l (b .0) px, (included-low H m n k g j t some more cut (e .1) l (b .1 .0) py, f ∙ met-low l (b .0) px (b .1 .0) py (b .1 .1)))
+
+      pub level-high : k ≤ m → x ≡ nodeAt (j - 1) s → y ≡ nodeAt (j - 1) t → (u ≡ inclusionRoot H (m - k) (n - k) h (firstNodes (j - 1) s)) × ((v ≡ inclusionRoot H (m - k) (n - k) g (firstNodes (j - 1) t)) × (below ≡ differ H (m - k) (n - k) h (firstNodes (j - 1) s) g (firstNodes (j - 1) t))) →
+          (p ≡ H (string x u)) × (q ≡ H (string y v)) → d ≡ topmost (string x u) (string y v) below →
+          (p ≡ inclusionRoot H m n h (firstNodes j s)) × ((q ≡ inclusionRoot H m n g (firstNodes j t)) × (d ≡ differ H m n h (firstNodes j s) g (firstNodes j t)))
+      level-high l px py b e f =
+          (included-high H m n k h j s some more cut (e .0) l px (b .0), (included-high H m n k g j t some more cut (e .1) l py (b .1 .0), f ∙ met-high l px (b .0) py (b .1 .0) (b .1 .1)))
 
   -- carrying: i nodes of the old path in s, and j of the consistency path in t
   module _ (x m n k : ℕ) (h f : List ℕ) (i j : ℕ) (s t : List ℕ) (z : 0 < m) where

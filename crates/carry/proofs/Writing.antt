@@ -6,6 +6,8 @@ use native.Mathlib.Omega.{arith}
 use lib.ListN.{length, take, drop, length-append, length-take}
 use lib.Seq.{take-at, drop-at, drop-drop, take-all, paste}
 use Rattle.tree.specs.Build.{over}
+use Rattle.tree.specs.Joined.{copied}
+use Rattle.tree.proofs.Joining.{copied-fits}
 use Rattle.carry.specs.Strings.{string}
 use Rattle.carry.specs.Inner.{Appends}
 
@@ -32,13 +34,16 @@ unfolding over
 written w x y p = p [] x refl refl
 
 -- the string of a child pair, in three pieces
-pub string-put : (at : ℕ) (a b o x y z : List ℕ) → length a ≡ 32 → length b ≡ 32 → x ≡ paste o at (drop 0 (1 ∷ [])) 1 → y ≡ paste x (at + 1) (drop 0 a) 32 → z ≡ paste y (at + 33) (drop 0 b) 32 → Appends at (string a b) o z
-string-put at a b o x y z la lb p q r =
+pub string-put : (at : ℕ) (a b o x y z : List ℕ) → length a ≡ 32 → length b ≡ 32 → at + 65 ≤ length o → length x ≡ length o → length y ≡ length x →
+    x ≡ copied (1 ∷ []) 0 1 o at → y ≡ copied a 0 32 x (at + 1) → z ≡ copied b 0 32 y (at + 33) → Appends at (string a b) o z
+string-put at a b o x y z la lb room lx ly p q r =
     let ta : take 32 a ≡ a = take-all 32 a (omega arith) in
     let tb : take 32 b ≡ b = take-all 32 b (omega arith) in
     let e : at + 33 ≡ at + 1 + 32 = omega arith in
-    let r₂ : z ≡ paste y (at + 1 + 32) b 32 = r ∙ ap (λ (i : ℕ). paste y i b 32) e in
-    let first : Appends at (1 ∷ []) o x = pasted at 1 (1 ∷ []) o x (omega arith) p in
-    let second : Appends (at + 1) a x y = rw ta at (pasted (at + 1) 32 a x y (omega arith) q) in
+    let p₂ = copied-fits (1 ∷ []) 0 1 o at (omega arith) (omega arith) p in
+    let q₂ = copied-fits a 0 32 x (at + 1) (omega arith) (omega arith) q in
+    let r₂ : z ≡ paste y (at + 1 + 32) b 32 = copied-fits b 0 32 y (at + 33) (omega arith) (omega arith) r ∙ ap (λ (i : ℕ). paste y i b 32) e in
+    let first : Appends at (1 ∷ []) o x = pasted at 1 (1 ∷ []) o x (omega arith) p₂ in
+    let second : Appends (at + 1) a x y = rw ta at (pasted (at + 1) 32 a x y (omega arith) q₂) in
     let third : Appends (at + 1 + 32) b y z = rw tb at (pasted (at + 1 + 32) 32 b y z (omega arith) r₂) in
     then at 1 (at + 1) (1 ∷ []) (a ++ b) o x z refl first refl (then (at + 1) 32 (at + 1 + 32) a b x y z refl second la third)

@@ -1,8 +1,9 @@
 // When both verdicts accept, in two steps: the lengths and numbers, and then the roots that a walk finds, which are not computed twice.
-use super::count::consistency_count;
-use super::count::inclusion_count;
 use hash::Digest;
+use tree::count::inclusion_count;
+use tree::count::subproof_count;
 use tree::limits::LARGEST_SIZE;
+use tree::nodes::equals;
 ghost use mathlib.Core.Path.{_≡_};
 ghost use mathlib.Core.Bool.{true};
 ghost use Rattle.carry.specs.Inner.{Fit, Agree};
@@ -47,21 +48,18 @@ pub(crate) fn fits(
     if path / 32 != inclusion_count(place, m) {
         return false;
     }
-    proof / 32 == consistency_count(m, n)
+    proof / 32 == subproof_count(m, n, true)
 }
 
 // Whether the roots agree: the old root by the inclusion proof, and both roots by the consistency path.
 pub(crate) fn agree(one: Digest, two: Digest, whole: Digest, old: &[u8], new: &[u8]) -> bool
     ensures { λ r. ⌜ (r ≡ true → Agree (one .bytes) (two .bytes) (whole .bytes) (now (old .entry)) (now (new .entry))) × (Agree (one .bytes) (two .bytes) (whole .bytes) (now (old .entry)) (now (new .entry)) → r ≡ true) ⌝ }
 {
-    let x = one.bytes;
-    if !check::same(&x, old) {
+    if !equals(one, old) {
         return false;
     }
-    let y = two.bytes;
-    if !check::same(&y, old) {
+    if !equals(two, old) {
         return false;
     }
-    let z = whole.bytes;
-    check::same(&z, new)
+    equals(whole, new)
 }

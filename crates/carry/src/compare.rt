@@ -1,11 +1,11 @@
 // Comparing two inclusion proofs for one place, size and root.
-use super::bytes::node_at;
 use super::bytes::put_pair;
 use super::level::Met;
 use super::level::above;
 use super::level::start;
-use super::split::cut;
 use hash::Digest;
+use tree::nodes::node_at;
+use tree::split::cut;
 use tree::verdict::inclusion_verdict;
 ghost use mathlib.Core.Path.{_≡_};
 ghost use Prim.Native.Nat.{_*_, _≤_, _<_};

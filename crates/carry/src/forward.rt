@@ -1,10 +1,10 @@
 // Carrying an inclusion proof forward.
 use super::accept::agree;
 use super::accept::fits;
-use super::bytes::node_at;
 use super::bytes::put_pair;
 use super::bytes::put_path;
 use super::walk::walk;
+use tree::nodes::node_at;
 use tree::verdict::consistency_verdict;
 use tree::verdict::inclusion_verdict;
 ghost use mathlib.Core.Path.{_≡_};

@@ -1,6 +1,6 @@
 // One level of two proofs of one root.
-use super::bytes::equal;
 use hash::Digest;
+use tree::nodes::equals;
 ghost use mathlib.Core.Path.{_≡_};
 ghost use Rattle.hash.specs.Digest.{nodeHash};
 ghost use Rattle.tree.specs.Joined.{same};
@@ -38,10 +38,12 @@ pub(crate) fn start(one: Digest, two: Digest) -> Met
 fn pairs(a: Digest, b: Digest, c: Digest, d: Digest) -> bool
     ensures { λ r. ⌜ r ≡ same (string (a .bytes) (b .bytes)) (string (c .bytes) (d .bytes)) ⌝ }
 {
-    if !equal(a, c) {
+    let x = c.bytes;
+    if !equals(a, &x) {
         return false;
     }
-    equal(b, d)
+    let y = d.bytes;
+    equals(b, &y)
 }
 
 // One level up: two child pairs, and what was met below them. Pairs that are the same are hashed once.

@@ -4,9 +4,6 @@
 pub mod compare; // two inclusion proofs for one place, size and root
 pub mod forward; // an inclusion proof, by a consistency proof to a larger size
 mod accept; // when both verdicts accept
-mod bytes; // hashes in buffers
-mod count; // how many nodes a path has
+mod bytes; // strings and paths, written into lent buffers
 mod level; // one level of two proofs
-mod split; // the two parts of a list
 mod walk; // the way down to the full subtree that holds a place
-mod yields; // the roots that a path yields

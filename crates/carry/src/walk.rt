@@ -1,12 +1,12 @@
 // The way from the top of the new tree down to the full subtree of the old one that holds a place.
-use super::bytes::node_at;
 use super::level::Met;
 use super::level::above;
 use super::level::start;
-use super::split::cut;
-use super::yields::consistency_roots;
-use super::yields::inclusion_root;
 use hash::Digest;
+use tree::nodes::node_at;
+use tree::split::cut;
+use tree::yields::yielded_root;
+use tree::yields::yielded_roots;
 ghost use mathlib.Core.Path.{_≡_};
 ghost use Prim.Native.Nat.{_+_, _*_, _≤_, _<_};
 ghost use lib.ListN.{length};
@@ -50,8 +50,8 @@ pub(crate) fn walk(
     ensures { λ r. ⌜ (r .low ≤ p) × (r .hashed ≤ 1) × (r .high ≤ q) ⌝ }
 {
     if m == n {
-        let y = inclusion_root(leaf, x, m, path, p);
-        let whole = consistency_roots(first, m, n, known, proof, q);
+        let y = yielded_root(leaf, x, m, path);
+        let whole = yielded_roots(first, m, n, known, proof);
         let old = whole.old;
         let new = whole.new;
         return Walked {
@@ -83,8 +83,8 @@ pub(crate) fn walk(
     let i = p - 1;
     let side = node_at(path, i);
     if x < k {
-        let y = inclusion_root(leaf, x, k, path, i);
-        let rest = consistency_roots(first, m - k, n - k, false, proof, j);
+        let y = yielded_root(leaf, x, k, path);
+        let rest = yielded_roots(first, m - k, n - k, false, proof);
         let old = rest.old;
         let new = rest.new;
         return Walked {

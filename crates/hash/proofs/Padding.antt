@@ -6,10 +6,10 @@ use native.Mathlib.Nat.{add-suc, add-zero, zero-add}
 use native.Mathlib.Numerals.{add-one}
 use native.Mathlib.Omega.{arith}
 use lib.ListN.{length, take, drop, set, getD, replicate, take-append-drop, length-append, length-replicate, replicate-append-replicate, List·getD-append}
-use lib.Seq.{paste, set-append-seam, take-append-seam, take-length, drop-append-add, drop-at, set-at, take-at, length-take-le, getD-append-add, getD-take, sets-eq}
-use Rattle.hash.specs.declared.State.{State}
-use Rattle.hash.specs.Words.{bigEndian, wordFrom, lengthBytes}
-use Rattle.hash.specs.Message.{zeros, ending, padded, absorbed, hashValue, stateBytes}
+use lib.Seq.{paste, set-append-seam, take-append-seam, take-length, drop-append-add, drop-at, take-at, length-take-le, getD-append-add, sets-eq}
+use Rattle.sha256.specs.declared.State.{State}
+use Rattle.sha256.specs.Words.{wordFrom}
+use Rattle.hash.specs.Message.{lengthBytes, zeros, ending, padded, absorbed, hashValue, stateBytes}
 use Rattle.hash.specs.Inner.{putState}
 
 -- ---- a hash value's bytes

@@ -4,10 +4,9 @@ use mathlib.Core.List.{List, [], _∷_}
 use Prim.Native.Nat.{ℕ, zero, suc, _/_, _%_, _^_, _<_}
 use native.Mathlib.Omega.{arith}
 use lib.ListN.{length, getD}
-use Rattle.hash.specs.declared.State.{State}
-use Rattle.hash.specs.Words.{wordBytes}
-use Rattle.hash.specs.Sha256.{compress, initial}
-use Rattle.hash.specs.Message.{hashValue, stateBytes}
+use Rattle.sha256.specs.declared.State.{State}
+use Rattle.sha256.specs.Sha256.{compress, initial}
+use Rattle.hash.specs.Message.{hashValue, wordBytes, stateBytes}
 use Rattle.hash.specs.Digest.{sha256}
 
 pub sha256-length : (m : List ℕ) → length (sha256 m) ≡ 32

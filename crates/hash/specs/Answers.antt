@@ -1,14 +1,9 @@
 -- What the public functions answer, by the numbers of the table of refusals, and what they leave in lent memory. Assumes nothing.
-use mathlib.Core.Bool.{cond, not}
+use mathlib.Core.Bool.{cond}
 use mathlib.Core.List.{List, _++_}
 use Prim.Native.Nat.{ℕ}
 use lib.Dec.{eqb, ltb}
 use lib.ListN.{length, drop, replicate}
-use Rattle.hash.specs.declared.State.{State}
-use Rattle.hash.specs.declared.Stepped.{Stepped}
-use Rattle.hash.specs.declared.Stepped.the-variants.{Done, Refused}
-use Rattle.hash.specs.Words.{wordFrom}
-use Rattle.hash.specs.Sha256.{compress, schedule}
 
 -- ---- the limits
 
@@ -18,20 +13,6 @@ mostItem = 33554432
 -- one more, for the 0x00 before an item
 abbrev pub mostInput : ℕ
 mostInput = 33554433
-
--- ---- the block step
-
--- 5: the block is not 64 bytes; 9: the schedule is not 64 words
-unfoldable pub stepNumber : List ℕ → List ℕ → ℕ
-stepNumber m w = cond (eqb (length m) 64) (cond (eqb (length w) 64) 0 9) 5
-
--- the answer: the hash value after the block, or the number
-unfoldable pub stepAnswer : State → List ℕ → List ℕ → Stepped
-stepAnswer s m w = let n = stepNumber m w in cond (eqb n 0) (Done (compress s (wordFrom m 0))) (Refused n)
-
--- the schedule after it: the block's 64 words, or as it was
-unfoldable pub stepSchedule : List ℕ → List ℕ → List ℕ
-stepSchedule m w = cond (eqb (stepNumber m w) 0) (schedule (wordFrom m 0) 64) w
 
 -- ---- a hash by value, of an input of at most `most` bytes
 

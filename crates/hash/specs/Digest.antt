@@ -1,7 +1,7 @@
 -- SHA-256 of a list of bytes (FIPS 180-4, section 6.2), and the hashes of a leaf and of a node (RFC 9162, section 2.1.1). Assumes nothing.
 use mathlib.Core.List.{List, _∷_, _++_}
 use Prim.Native.Nat.{ℕ}
-use Rattle.hash.specs.Sha256.{compress, initial}
+use Rattle.sha256.specs.Sha256.{compress, initial}
 use Rattle.hash.specs.Message.{hashValue, stateBytes}
 
 unfoldable pub sha256 : List ℕ → List ℕ

@@ -1,7 +1,5 @@
--- What a reader must believe of this crate, in the order of FIPS 180-4: operations on words (2.2.2, 3.1, 3.2), SHA-256's block step (4.1.2, 4.2.2,
--- 5.3.3, 6.2.2), the padded message and its blocks (5.1.1, 5.2.1, 6.2), the digest, and what the public functions answer and leave.
-pub mod Words
-pub mod Sha256
+-- What a reader must believe of this crate, in the order of FIPS 180-4: the padded message and its blocks (5.1.1, 5.2.1, 6.2), the digest, and what the
+-- public functions answer and leave. The block step is the crate sha256's.
 pub mod Message
 pub mod Digest
 pub mod Answers

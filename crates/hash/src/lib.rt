@@ -1,7 +1,6 @@
-// SHA-256 (FIPS 180-4), and the hashes of a leaf and of a node (RFC 9162, section 2.1.1). The lowest layer: those above see its contracts, and that
-// a digest has 32 bytes.
+// SHA-256 of a message (FIPS 180-4), over the block step of the crate sha256, and the hashes of a leaf and of a node (RFC 9162, section 2.1.1). The
+// layers above see its contracts, and that a digest has 32 bytes.
 mod message;
-pub mod sha256;
 
 ghost use mathlib.Core.Path.{_≡_};
 ghost use mathlib.Core.List.{[], _++_};
@@ -19,18 +18,6 @@ const MOST_ITEM: usize = 33_554_432;
 
 const MOST_INPUT: usize = 33_554_433;
 
-// A hash value: eight words.
-pub struct State {
-    pub a: u32,
-    pub b: u32,
-    pub c: u32,
-    pub d: u32,
-    pub e: u32,
-    pub f: u32,
-    pub g: u32,
-    pub h: u32,
-}
-
 // A hash value as bytes.
 pub struct Digest {
     pub bytes: [u8; 32],
@@ -40,12 +27,6 @@ pub struct Digest {
 pub struct Hashed {
     pub number: u32,
     pub digest: Digest,
-}
-
-// What the block step answers.
-pub enum Stepped {
-    Done(State),
-    Refused(u32),
 }
 
 // The digest of head and then m, by value.

@@ -5,28 +5,13 @@ ghost use mathlib.Core.List.{_++_, _∷_};
 ghost use Prim.Native.Nat.{_+_, _-_, _*_, _/_, _%_, _^_, _<_, _≤_};
 ghost use lib.ListN.{length, take, drop, replicate};
 ghost use lib.Seq.{paste};
-ghost use Rattle.hash.specs.Words.{lengthBytes};
-ghost use Rattle.hash.specs.Sha256.{compress as compressOf, initial as initialOf};
-ghost use Rattle.hash.specs.Message.{ending, absorbed, hashValue, stateBytes};
+ghost use Rattle.sha256.specs.Words.{wordFrom};
+ghost use Rattle.sha256.specs.Sha256.{compress as compressOf, initial as initialOf};
+ghost use Rattle.hash.specs.Message.{lengthBytes, ending, absorbed, hashValue, stateBytes};
 ghost use Rattle.hash.specs.Inner.{putWord};
-use crate::State;
-use crate::sha256::compress;
-
-// The initial hash value (5.3.3).
-fn initial() -> State
-    ensures { λ r. ⌜ r ≡ initialOf ⌝ }
-{
-    State {
-        a: 0x6a09_e667,
-        b: 0xbb67_ae85,
-        c: 0x3c6e_f372,
-        d: 0xa54f_f53a,
-        e: 0x510e_527f,
-        f: 0x9b05_688c,
-        g: 0x1f83_d9ab,
-        h: 0x5be0_cd19,
-    }
-}
+use sha256::State;
+use sha256::initial;
+use sha256::step_at;
 
 // Copies s into d from `at` on.
 fn put(s: &[u8], d: &mut [u8], at: usize)
@@ -76,6 +61,14 @@ fn pack(head: &[u8], rest: &[u8], n: u64, end: usize, a: &mut [u8])
     join(head, rest, a);
     a[len] = 0x80;
     put(&b, a, end - 8);
+}
+
+// The hash value after the block that starts at byte p of m.
+fn compress(s: State, m: &[u8], p: usize, w: &mut [u32]) -> State
+    requires { ⌜ (p + 64 ≤ length (now m)) × (length (now w) ≡ 64) ⌝ }
+    ensures { λ r. ⌜ r ≡ compressOf s (wordFrom (now (m .entry)) p) ⌝ }
+{
+    step_at(s, m, p, w)
 }
 
 // The hash value after the last bytes of a message of n bytes, head and then rest, and what follows a message.

@@ -4,11 +4,9 @@ use mathlib.Core.List.{List, _++_}
 use Prim.Native.Nat.{ℕ, _<_, _≤_}
 use lib.ListN.{length, drop}
 use borrow.Author.Tests.{eq-eqb, ne-eqb, lt-ltb, le-ltb}
-use Rattle.hash.specs.declared.State.{State}
-use Rattle.hash.specs.declared.Stepped.the-variants.{Done}
-use Rattle.hash.specs.Words.{wordFrom}
-use Rattle.hash.specs.Sha256.{compress, schedule}
-use Rattle.hash.specs.Answers.{stepNumber, stepAnswer, stepSchedule}
+use Rattle.sha256.specs.Words.{wordFrom}
+use Rattle.sha256.specs.Sha256.{compress, schedule}
+use Rattle.sha256.specs.Answers.{stepNumber}
 use Rattle.hash.specs.Digest.{nodeHash}
 use Rattle.mta.specs.Slices.{nodeNumber, nodeBytes, stateOf, wordsOf, wordsNumber, wordsAfter, scheduleAfter}
 
@@ -36,12 +34,6 @@ module _ (l r out : List ℕ) where
       let f = eq-eqb (length r) 32 k in
       let g = le-ltb (length out) 32 m in
       (simp (e, f, g), simp (e, f, g))
-
--- the block step of the layer below, on a block and a schedule that fit
-module _ (m w : List ℕ) (h : length m ≡ 64) (k : length w ≡ 64) where
-  pub step-done : (s : State) → (Done (compress s (wordFrom m 0)) ≡ stepAnswer s m w) × (schedule (wordFrom m 0) 64 ≡ stepSchedule m w)
-  unfolding stepNumber stepAnswer stepSchedule
-  step-done s = let e = eq-eqb (length m) 64 h in let f = eq-eqb (length w) 64 k in (simp (e, f), simp (e, f))
 
 module _ (l m w : List ℕ) where
   abbrev Refuses : ℕ → Type 0

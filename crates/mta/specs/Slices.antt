@@ -4,10 +4,10 @@ use mathlib.Core.List.{List, [], _∷_, _++_}
 use Prim.Native.Nat.{ℕ}
 use lib.Dec.{eqb, ltb}
 use lib.ListN.{length, drop, getD}
-use Rattle.hash.specs.declared.State.{State}
-use Rattle.hash.specs.Words.{wordFrom}
-use Rattle.hash.specs.Sha256.{compress, schedule}
-use Rattle.hash.specs.Answers.{stepNumber}
+use Rattle.sha256.specs.declared.State.{State}
+use Rattle.sha256.specs.Words.{wordFrom}
+use Rattle.sha256.specs.Sha256.{compress, schedule}
+use Rattle.sha256.specs.Answers.{stepNumber}
 use Rattle.hash.specs.Digest.{nodeHash}
 
 -- ---- a node hash: 5 where a part is not 32 bytes, 9 where out has fewer than 32

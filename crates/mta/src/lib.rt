@@ -17,11 +17,11 @@ ghost use Rattle.mta.specs.Slices.{nodeNumber, nodeBytes, wordsOf, words
 use carry::compare::Compared;
 use carry::forward::Carried;
 use hash::Digest;
-use hash::State;
-use hash::Stepped;
 use item::Item;
 use item::Numbers;
 use item::Written;
+use sha256::State;
+use sha256::Stepped;
 use tree::build::Built;
 
 // The inclusion verdict (RFC 9162, section 2.1.3).
@@ -399,7 +399,7 @@ pub extern "C" fn mta_step(state: &mut [u32], block: &[u8], w: &mut [u32]) -> u3
         g: state[6],
         h: state[7],
     };
-    match hash::sha256::step(s, block, w) {
+    match sha256::step(s, block, w) {
         Stepped::Done(r) => put_words(r, state),
         Stepped::Refused(n) => return n,
     }

@@ -114,7 +114,7 @@ module _ (H : List ℕ → List ℕ) where
 
   none-counted : (n : ℕ) → 0 < n → consistencyCount n n ≡ 0
   unfolding consistencyCount
-  none-counted n z = sub-all n n true z refl
+  none-counted n z = sub-all n n true refl
 
   pub equal : Equal H
   equal = record {

@@ -102,18 +102,7 @@ pub tells-wrote : {o : Outcome} {w : List ℕ} {n : ℕ} {y : List ℕ} (out : L
 unfolding answer output
 tells-wrote out e d f = rw (e, d, f) (refl, refl)
 
--- a root by value, and what is written of it
-by-number : (s : List ℕ) (b : Bool) → unfit s ≡ b → (k : ℕ) → k ≡ rootNumber s → ((b ≡ true) × (k ≡ 10)) ⊎ ((b ≡ false) × (k ≡ 0))
-by-number s true u k e = inl (refl, e ∙ number-10 s u)
-by-number s false u k e = inr (refl, e ∙ number-0 s u)
-
-pub root-refused : (H : List ℕ → List ℕ) (s : List ℕ) (room k : ℕ) → k ≡ rootNumber s → (k ≡ 0 → ⊥) → rootBuilt H s room ≡ refused k
-root-refused H s room k e z =
-    ⊎-elim (λ p. root-10 H s room (p .0) ∙ ap refused (sym (p .1))) (λ p. absurd (z (p .1))) (by-number s (unfit s) refl k e)
-
-pub root-fit : (s : List ℕ) (k : ℕ) → k ≡ rootNumber s → k ≡ 0 → unfit s ≡ false
-root-fit s k e z = ⊎-elim (λ p. let q = p .1 in absurd (omega arith)) (λ p. p .0) (by-number s (unfit s) refl k e)
-
+-- a root, written over the output
 pub over-whole : (h out : List ℕ) {y : List ℕ} → length h ≡ 32 → y ≡ paste out 0 h 32 → y ≡ over h out
 unfolding over
 over-whole h out e p = let k : take 32 h ≡ h = take-all 32 h (omega arith) in p ∙ rw (k, e)

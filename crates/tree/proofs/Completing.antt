@@ -13,7 +13,7 @@ use Rattle.tree.specs.Tree.{node, root, path, subproof, consistency}
 use Rattle.tree.specs.Yield.{init, last, inclusionRoot, oldRoot, newRoot}
 use Rattle.tree.specs.Equations.{left, right}
 use Rattle.tree.proofs.Splitting.{lt-or-ge, split-ends, split-same}
-use Rattle.tree.proofs.Rfc.{init-snoc, last-snoc, length-left, length-right, by-parts, root-none, root-one, root-split, path-one, path-low, path-high, sub-all, sub-low, sub-high, yields-one, yields-low, yields-high, equations}
+use Rattle.tree.proofs.Rfc.{init-snoc, last-snoc, length-left, length-right, by-parts, root-none, root-one, root-split, path-one, path-low, path-high, sub-all, sub-low, sub-high, yields-few, yields-low, yields-high, equations}
 use Rattle.tree.proofs.Joining.{All32, all-none, all-append, all-one, all-take, all-drop}
 
 drop-take : {A : Type 0} (n m : ℕ) (l : List A) → drop n (take m l) ≡ take (m - n) (drop n l)
@@ -36,7 +36,7 @@ module _ (H : List ℕ → List ℕ) where
   unfolding Reaches
   reaches-one h m lt =
       let e : m ≡ 0 = omega arith in
-      yields-one H m (getD (h ∷ []) m []) (path H m (h ∷ [])) ∙ ap (λ (i : ℕ). getD (h ∷ []) i []) e ∙ sym (root-one H h)
+      yields-few H m 1 (getD (h ∷ []) m []) (path H m (h ∷ [])) (omega arith) ∙ ap (λ (i : ℕ). getD (h ∷ []) i []) e ∙ sym (root-one H h)
 
   module _ (l : List (List ℕ)) (more : 1 < length l) (m : ℕ) (lt : m < length l) where
     reaches-low : m < split (length l) → inclusionRoot H m (length (left l)) (getD (left l) m []) (path H m (left l)) ≡ root H (left l) → inclusionRoot H m (length l) (getD l m []) (path H m l) ≡ root H l

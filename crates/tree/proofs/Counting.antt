@@ -9,17 +9,18 @@ use native.Mathlib.Nat.{pow-zero}
 use lib.Dec.{leb, ltb, eqb}
 use lib.ListN.{length, take, drop, length-append}
 use borrow.Author.Tests.{lt-ltb, le-ltb, eq-eqb, ne-eqb, le-leb, lt-leb}
+use Rattle.tree.specs.Limits.{mostNodes}
 use Rattle.tree.specs.Split.{split, Shape, one, fork, size, shape}
 use Rattle.tree.specs.Tree.{rootOf, pathOf, path, subproofOf, subproof, consistency}
 use Rattle.tree.specs.Count.{inclusionCountOf, inclusionCount, subproofCountOf, subproofCount, consistencyCount}
 use Rattle.tree.specs.Claims.{Bounds, Counts}
-use Rattle.tree.proofs.Splitting.{lt-or-ge, split-ends, split-most, shape-one, shape-fork, size-shape}
+use Rattle.tree.proofs.Splitting.{lt-or-ge, split-ends, split-most, shape-few, shape-fork, size-shape}
 use Rattle.tree.proofs.Rfc.{size-left, size-right}
 
 -- the inclusion path, by the split
-pub count-one : (m : ℕ) → inclusionCount m 1 ≡ 0
+pub count-few : (m n : ℕ) → n ≤ 1 → inclusionCount m n ≡ 0
 unfolding inclusionCount inclusionCountOf
-count-one m = rw shape-one
+count-few m n h = rw (shape-few n h)
 
 module _ (m n k : ℕ) (more : 1 < n) (cut : k ≡ split n) where
   pub count-low : m < k → inclusionCount m n ≡ 1 + inclusionCount m k
@@ -43,28 +44,37 @@ unfolding subproofCountOf size
 sub-whole one m b e = refl
 sub-whole (fork a c) m b e = rw (eq-eqb m (size a + size c) e)
 
-pub sub-all : (m n : ℕ) (b : Bool) → 0 < m → m ≡ n → subproofCount m n b ≡ cond b 0 1
+pub sub-few : (m n : ℕ) (b : Bool) → n ≤ 1 → subproofCount m n b ≡ cond b 0 1
+unfolding subproofCount subproofCountOf
+sub-few m n b h = rw (shape-few n h)
+
+pub sub-all : (m n : ℕ) (b : Bool) → m ≡ n → subproofCount m n b ≡ cond b 0 1
 unfolding subproofCount
-sub-all m n b z e = sub-whole (shape n) m b (e ∙ sym (size-shape n (omega arith)))
+sub-all m n b e = ⊎-elim (λ z. sub-whole (shape n) m b (e ∙ sym (size-shape n z))) (λ z. sub-few m n b (omega arith)) (lt-or-ge 0 n)
 
-module _ (m n k : ℕ) (b : Bool) (some : 0 < m) (lt : m < n) (cut : k ≡ split n) where
-  more : 1 < n
-  more = omega arith
+module _ (m n k : ℕ) (b : Bool) (more : 1 < n) (other : m ≡ n → ⊥) (cut : k ≡ split n) where
+  part : m ≡ size (shape (split n)) + size (shape (n - split n)) → ⊥
+  part e = let s = split-ends n more in let u = size-left n more in let v = size-right n more in other (omega arith)
 
-  part : m < size (shape (split n)) + size (shape (n - split n))
-  part = let s = split-ends n more in let u = size-left n more in let v = size-right n more in omega arith
-
-  pub sub-low : m ≤ k → subproofCount m n b ≡ 1 + subproofCount m k b
+  pub down-low : m ≤ k → subproofCount m n b ≡ 1 + subproofCount m k b
   unfolding subproofCount subproofCountOf
-  sub-low h =
+  down-low h =
       let z = size-left n more in
-      rw (cut, shape-fork n more, ne-eqb m (size (shape (split n)) + size (shape (n - split n))) (λ e. let p = part in omega arith), le-leb m (size (shape (split n))) (omega arith))
+      rw (cut, shape-fork n more, ne-eqb m (size (shape (split n)) + size (shape (n - split n))) part, le-leb m (size (shape (split n))) (omega arith))
+
+  pub down-high : k < m → subproofCount m n b ≡ 1 + subproofCount (m - k) (n - k) false
+  unfolding subproofCount subproofCountOf
+  down-high h =
+      let z = size-left n more in
+      rw (cut, shape-fork n more, ne-eqb m (size (shape (split n)) + size (shape (n - split n))) part, lt-leb m (size (shape (split n))) (omega arith), z)
+
+-- the same where the first m of n are a part of them
+module _ (m n k : ℕ) (b : Bool) (some : 0 < m) (lt : m < n) (cut : k ≡ split n) where
+  pub sub-low : m ≤ k → subproofCount m n b ≡ 1 + subproofCount m k b
+  sub-low = down-low m n k b (omega arith) (λ e. omega arith) cut
 
   pub sub-high : k < m → subproofCount m n b ≡ 1 + subproofCount (m - k) (n - k) false
-  unfolding subproofCount subproofCountOf
-  sub-high h =
-      let z = size-left n more in
-      rw (cut, shape-fork n more, ne-eqb m (size (shape (split n)) + size (shape (n - split n))) (λ e. let p = part in omega arith), lt-leb m (size (shape (split n))) (omega arith), z)
+  sub-high = down-high m n k b (omega arith) (λ e. omega arith) cut
 
   pub sub-some : 1 ≤ subproofCount m n b
   sub-some = ⊎-elim (λ t. let e = sub-high t in omega arith) (λ t. let e = sub-low t in omega arith) (lt-or-ge k m)
@@ -75,7 +85,7 @@ few true k = omega arith
 few false k = omega arith
 
 pub inclusion-most : (k m n : ℕ) → m < n → n ≤ 2 ^ k → inclusionCount m n ≤ k
-inclusion-most zero m n l h = let e : n ≡ 1 = omega (arith, pow-zero 2) in rw (e, count-one m) (omega arith)
+inclusion-most zero m n l h = rw (count-few m n (omega (arith, pow-zero 2))) (omega arith)
 inclusion-most (suc k) m n l h =
     ⊎-elim (λ more.
     let s = split-ends n more in
@@ -83,11 +93,11 @@ inclusion-most (suc k) m n l h =
     ⊎-elim (λ t. let i = inclusion-most k m (split n) t b in let c = count-low m n (split n) more refl t in omega arith)
     (λ t. let i = inclusion-most k (m - split n) (n - split n) (omega arith) (omega arith) in let c = count-high m n (split n) more refl t in omega arith)
     (lt-or-ge m (split n)))
-    (λ (single : n ≤ 1). let e : n ≡ 1 = omega arith in rw (e, count-one m) (omega arith))
+    (λ (single : n ≤ 1). rw (count-few m n single) (omega arith))
     (lt-or-ge 1 n)
 
 pub subproof-most : (k m n : ℕ) (b : Bool) → 0 < m → m ≤ n → n ≤ 2 ^ k → subproofCount m n b ≤ k + 1
-subproof-most zero m n b z l h = let e : m ≡ n = omega (arith, pow-zero 2) in rw (sub-all m n b z e) (few b 0)
+subproof-most zero m n b z l h = let e : m ≡ n = omega (arith, pow-zero 2) in rw (sub-all m n b e) (few b 0)
 subproof-most (suc k) m n b z l h =
     ⊎-elim (λ less.
     let more : 1 < n = omega arith in
@@ -96,7 +106,7 @@ subproof-most (suc k) m n b z l h =
     ⊎-elim (λ u. let i = subproof-most k (m - split n) (n - split n) false (omega arith) (omega arith) (omega arith) in let c = sub-high m n (split n) b z less refl u in omega arith)
     (λ u. let i = subproof-most k m (split n) b z u w in let c = sub-low m n (split n) b z less refl u in omega arith)
     (lt-or-ge (split n) m))
-    (λ all. let e : m ≡ n = omega arith in rw (sub-all m n b z e) (few b (suc k)))
+    (λ all. let e : m ≡ n = omega arith in rw (sub-all m n b e) (few b (suc k)))
     (lt-or-ge m n)
 
 pub bounds : Bounds
@@ -104,8 +114,8 @@ unfolding consistencyCount
 bounds = record {
   inclusion = inclusion-most;
   consistency = λ k m n z l h. subproof-most k m n true z l h;
-  inclusion-largest = λ m n l h. inclusion-most 32 m n l h;
-  consistency-largest = λ m n z l h. subproof-most 32 m n true z l h;
+  inclusion-largest = λ m n l h. inclusion-most mostNodes m n l h;
+  consistency-largest = λ m n z l h. subproof-most mostNodes m n true z l h;
 }
 
 -- the definition's paths have so many nodes

@@ -6,11 +6,11 @@ use Prim.Native.Nat.{ℕ, zero, suc, _+_, _-_, _*_, _/_, _≤_, _<_}
 use native.Mathlib.Omega.{arith}
 use native.Mathlib.Nat.{zero-add, suc-add}
 use native.Mathlib.Numerals.{add-one}
-use lib.Dec.{eqb}
+use lib.Dec.{leb, eqb}
 use lib.ListN.{length, take, drop, getD, length-append, length-take, length-drop}
-use lib.Seq.{take-at, drop-at, drop-drop, take-all}
-use borrow.Author.Tests.{eq-eqb, eqb-true}
-use Rattle.tree.specs.Joined.{firstNodes, nodes, nodeAt, nodesFrom, joined, same}
+use lib.Seq.{take-at, drop-at, drop-drop, take-all, paste}
+use borrow.Author.Tests.{eq-eqb, eqb-true, le-leb, lt-leb}
+use Rattle.tree.specs.Joined.{firstNodes, nodes, nodeAt, nodesFrom, noHash, hashAt, copied, joined, same}
 use Rattle.tree.specs.Yield.{init, last}
 use Rattle.tree.proofs.Rfc.{init-snoc, last-snoc}
 
@@ -79,8 +79,34 @@ pub nodes-first : (s : List ℕ) → nodes s ≡ firstNodes (length s / 32) s
 unfolding nodes
 nodes-first s = refl
 
-pub whole-node : (s : List ℕ) → length s ≡ 32 → nodeAt 0 s ≡ s
-whole-node s e = take-all 32 s (omega arith)
+-- what is read where the buffer holds it
+pub hash-in : (i : ℕ) (s : List ℕ) → 32 * i + 32 ≤ length s → hashAt i s ≡ nodeAt i s
+unfolding hashAt
+hash-in i s h = rw (le-leb (32 * i + 32) (length s) h)
+
+pub hash-out : (i : ℕ) (s : List ℕ) → length s < 32 * i + 32 → hashAt i s ≡ noHash
+unfolding hashAt
+hash-out i s h = rw (lt-leb (32 * i + 32) (length s) h)
+
+pub whole-hash : (s : List ℕ) → length s ≡ 32 → hashAt 0 s ≡ s
+whole-hash s e = hash-in 0 s (omega arith) ∙ take-all 32 s (omega arith)
+
+-- what is copied where both buffers reach far enough, and where one does not
+module _ (s : List ℕ) (from len : ℕ) (out : List ℕ) (at : ℕ) where
+  pub copied-in : leb (from + len) (length s) ≡ true → leb (at + len) (length out) ≡ true → copied s from len out at ≡ paste out at (drop from s) len
+  unfolding copied
+  copied-in p q = rw (p, q)
+
+  pub copied-short : leb (from + len) (length s) ≡ false → copied s from len out at ≡ out
+  unfolding copied
+  copied-short p = rw p
+
+  pub copied-full : leb (from + len) (length s) ≡ true → leb (at + len) (length out) ≡ false → copied s from len out at ≡ out
+  unfolding copied
+  copied-full p q = rw (p, q)
+
+  pub copied-fits : {y : List ℕ} → from + len ≤ length s → at + len ≤ length out → y ≡ copied s from len out at → y ≡ paste out at (drop from s) len
+  copied-fits p q e = e ∙ copied-in (le-leb (from + len) (length s) p) (le-leb (at + len) (length out) q)
 
 -- each hash has 32 bytes
 unfoldable pub All32 : List (List ℕ) → Type 0

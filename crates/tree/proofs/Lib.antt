@@ -3,10 +3,10 @@ pub mod Splitting
 pub mod Rfc
 pub mod Counting
 pub mod Joining
+pub mod Answering
 pub mod Yielding
 pub mod Completing
 pub mod Parting
-pub mod Answering
 pub mod Accepting
 pub mod Building
 pub mod OfSha256

@@ -13,7 +13,7 @@ use Rattle.tree.specs.Split.{split, Shape, one, fork, size, shape}
 use Rattle.tree.specs.Tree.{leaf, node, rootOf, root, mth, pathOf, path, subproofOf, subproof, consistency}
 use Rattle.tree.specs.Yield.{init, last, inclusionRootOf, inclusionRoot, consistencyRootOf, oldRoot, newRoot}
 use Rattle.tree.specs.Equations.{left, right, Mth, Root, Equations}
-use Rattle.tree.proofs.Splitting.{split-ends, split-is, split-holds, shape-one, shape-fork, size-shape, by-splits}
+use Rattle.tree.proofs.Splitting.{split-ends, split-is, split-holds, shape-one, shape-few, shape-fork, size-shape, by-splits}
 
 pub init-snoc : (p : List (List ℕ)) (x : List ℕ) → init (p ++ (x ∷ [])) ≡ p
 unfolding init
@@ -166,9 +166,9 @@ module _ (H : List ℕ → List ℕ) where
         )
 
   -- what an inclusion path yields
-  pub yields-one : (m : ℕ) (h : List ℕ) (p : List (List ℕ)) → inclusionRoot H m 1 h p ≡ h
+  pub yields-few : (m n : ℕ) (h : List ℕ) (p : List (List ℕ)) → n ≤ 1 → inclusionRoot H m n h p ≡ h
   unfolding inclusionRoot inclusionRootOf
-  yields-one m h p = rw shape-one
+  yields-few m n h p e = rw (shape-few n e)
 
   module _ (m n : ℕ) (h : List ℕ) (p : List (List ℕ)) (more : 1 < n) where
     pub yields-low : m < split n → inclusionRoot H m n h p ≡ node H (inclusionRoot H m (split n) h (init p)) (last p)
@@ -272,7 +272,7 @@ module _ (H : List ℕ → List ℕ) where
       high = λ b lt. sub-high m l b z lt;
     };
     included = λ m n h p. record {
-      single = λ e. rw e (yields-one m h p);
+      single = λ e. yields-few m n h p (omega arith);
       low = yields-low m n h p;
       high = yields-high m n h p;
     };

@@ -38,6 +38,10 @@ pub split-ends : (n : ℕ) → 1 < n → (split n < n) × (n ≤ 2 * split n) ×
 unfolding split
 split-ends n h = doubled-ends n 1 n (omega arith) h (omega arith)
 
+pub split-few : (n : ℕ) → n ≤ 1 → split n ≡ 1
+unfolding split
+split-few n h = doubled-stop n 1 n (omega arith)
+
 doubled-power : (f k n i : ℕ) → k ≡ 2 ^ i → (j : ℕ) × (doubled f k n ≡ 2 ^ j)
 unfolding doubled
 doubled-power zero k n i e = (i, e)
@@ -140,9 +144,12 @@ shapeIn-same (suc f) (suc g) n p q =
     (λ h. shapeIn-stop (suc f) n h ∙ sym (shapeIn-stop (suc g) n h))
     (lt-or-ge 1 n)
 
+pub shape-few : (n : ℕ) → n ≤ 1 → shape n ≡ one
+unfolding shape
+shape-few n h = shapeIn-stop n n h
+
 pub shape-one : shape 1 ≡ one
-unfolding shape shapeIn
-shape-one = refl
+shape-one = shape-few 1 (omega arith)
 
 pub shape-fork : (n : ℕ) → 1 < n → shape n ≡ fork (shape (split n)) (shape (n - split n))
 unfolding shape

@@ -6,7 +6,7 @@ use mathlib.Core.Bool.{true}
 use mathlib.Core.List.{List, []}
 use Prim.Native.Nat.{ℕ, _+_, _*_, _/_, _^_, _≤_, _<_}
 use lib.ListN.{length, take}
-use Rattle.tree.specs.Limits.{largestSize}
+use Rattle.tree.specs.Limits.{largestSize, mostNodes}
 use Rattle.tree.specs.Count.{inclusionCount, consistencyCount}
 use Rattle.tree.specs.Tree.{root, path, consistency}
 use Rattle.tree.specs.Yield.{inclusionRoot, oldRoot, newRoot}
@@ -14,12 +14,12 @@ use Rattle.tree.specs.Joined.{nodes, nodeAt}
 use Rattle.tree.specs.Verdict.{inclusionVerdict, consistencyVerdict}
 use Rattle.tree.specs.Build.{wrote, inclusionBuilt, consistencyBuilt}
 
--- a path has at most k nodes where there are at most 2 ^ k leaves, a consistency path at most one more: 32 and 33 at the largest size
+-- a path has at most k nodes where there are at most 2 ^ k leaves, a consistency path at most one more
 pub record Bounds : Type 0 where
   pub inclusion : (k m n : ℕ) → m < n → n ≤ 2 ^ k → inclusionCount m n ≤ k
   pub consistency : (k m n : ℕ) → 0 < m → m ≤ n → n ≤ 2 ^ k → consistencyCount m n ≤ k + 1
-  pub inclusion-largest : (m n : ℕ) → m < n → n ≤ largestSize → inclusionCount m n ≤ 32
-  pub consistency-largest : (m n : ℕ) → 0 < m → m ≤ n → n ≤ largestSize → consistencyCount m n ≤ 33
+  pub inclusion-largest : (m n : ℕ) → m < n → n ≤ largestSize → inclusionCount m n ≤ mostNodes
+  pub consistency-largest : (m n : ℕ) → 0 < m → m ≤ n → n ≤ largestSize → consistencyCount m n ≤ mostNodes + 1
 
 module _ (H : List ℕ → List ℕ) where
   -- the definition's paths have the counted nodes

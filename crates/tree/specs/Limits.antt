@@ -6,6 +6,10 @@ use Prim.Native.Nat.{ℕ, _^_}
 abbrev pub largestSize : ℕ
 largestSize = 2 ^ 32
 
+-- the most nodes of an inclusion path at the largest size; a consistency path has at most one more
+abbrev pub mostNodes : ℕ
+mostNodes = 32
+
 -- the most leaf hashes that one lent buffer may join
 abbrev pub mostLeaves : ℕ
 mostLeaves = largestSize

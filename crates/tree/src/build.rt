@@ -1,7 +1,7 @@
 // Builders of roots and paths, from joined leaf hashes into a lent output. Refusals in the order 10, 6, 9; a refusal changes nothing, and
 // bytes past what was written stay.
-use super::count::consistency_count;
 use super::count::inclusion_count;
+use super::count::subproof_count;
 use super::limits::MOST_LEAVES;
 use super::nodes::put_node;
 use super::parts::part_root;
@@ -69,14 +69,13 @@ pub fn root(leaves: &[u8], out: &mut [u8]) -> Built
     ensures { λ r. ⌜ r ≡ answer (rootBuilt sha256 (now (leaves .entry)) (length (now (out .entry)))) ⌝ }
     ensures { λ _. ⌜ now (out .exit) ≡ output (rootBuilt sha256 (now (leaves .entry)) (length (now (out .entry)))) (now (out .entry)) ⌝ }
 {
-    let made = root_of(leaves);
-    let number = made.number;
-    if number != 0 {
-        return Built::Refused(number);
+    if bad_leaves(leaves) {
+        return Built::Refused(JOINED);
     }
     if out.len() < 32 {
         return Built::Refused(ROOM);
     }
+    let made = root_of(leaves);
     let digest = made.digest;
     put_node(digest, out, 0);
     Built::Wrote(32)
@@ -115,7 +114,7 @@ pub fn consistency_path(leaves: &[u8], first: u64, out: &mut [u8]) -> Built
     if (n as u64) < first {
         return Built::Refused(RANGE);
     }
-    if out.len() / 32 < consistency_count(first, n as u64) {
+    if out.len() / 32 < subproof_count(first, n as u64, true) {
         return Built::Refused(ROOM);
     }
     Built::Wrote(proof_into(leaves, 0, n, first as usize, true, out))

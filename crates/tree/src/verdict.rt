@@ -1,6 +1,6 @@
 // The verdicts on proofs: 0 where a proof is accepted, and else the number of the first refusal, in the order 5, 10, 6, 7, 8.
-use super::count::consistency_count;
 use super::count::inclusion_count;
+use super::count::subproof_count;
 use super::limits::LARGEST_SIZE;
 use super::nodes::equals;
 use super::nodes::node_at;
@@ -72,7 +72,7 @@ pub fn consistency_verdict(first: u64, second: u64, old: &[u8], new: &[u8], path
         return RANGE;
     }
     let count = path.len() / 32;
-    if count != consistency_count(first, second) {
+    if count != subproof_count(first, second, true) {
         return COUNT;
     }
     let yielded = consistency_roots(node_at(old, 0), first, second, true, path, count);

@@ -1,4 +1,6 @@
 // The roots that a path yields: the definition's splits are followed, with the given nodes in the place of the other parts' roots.
+use super::count::inclusion_count;
+use super::count::subproof_count;
 use super::nodes::node_at;
 use super::split::cut;
 use hash::Digest;
@@ -8,7 +10,7 @@ ghost use lib.ListN.{length};
 ghost use Rattle.hash.specs.Digest.{sha256};
 ghost use Rattle.tree.specs.Count.{inclusionCount, subproofCount};
 ghost use Rattle.tree.specs.Joined.{firstNodes};
-ghost use Rattle.tree.specs.Yield.{inclusionRoot, oldRoot, newRoot};
+ghost use Rattle.tree.specs.Yield.{inclusionRoot, oldRoot, newRoot, yieldedRoot, yieldedOld, yieldedNew};
 
 // The root that the first `count` nodes of a path yield for a leaf hash at a place.
 pub(crate) fn inclusion_root(
@@ -18,7 +20,7 @@ pub(crate) fn inclusion_root(
     path: &[u8],
     count: usize,
 ) -> Digest
-    requires { ⌜ (place < size) × (count ≡ inclusionCount place size) × (32 * count ≤ length (now path)) ⌝ }
+    requires { ⌜ (count ≡ inclusionCount place size) × (32 * count ≤ length (now path)) ⌝ }
     ensures { λ r. ⌜ r .bytes ≡ inclusionRoot sha256 place size (leaf .bytes) (firstNodes count (now (path .entry))) ⌝ }
 {
     if size <= 1 {
@@ -35,8 +37,19 @@ pub(crate) fn inclusion_root(
     hash::node(top, high)
 }
 
+// The same of as many nodes as the definition counts, of any path; the leaf hash where the path has fewer.
+pub fn yielded_root(leaf: Digest, place: u64, size: u64, path: &[u8]) -> Digest
+    ensures { λ r. ⌜ r .bytes ≡ yieldedRoot sha256 place size (leaf .bytes) (now (path .entry)) ⌝ }
+{
+    let count = inclusion_count(place, size);
+    if path.len() / 32 < count {
+        return leaf;
+    }
+    inclusion_root(leaf, place, size, path, count)
+}
+
 // The roots of the first leaves and of all.
-pub(crate) struct Roots {
+pub struct Roots {
     pub old: Digest,
     pub new: Digest,
 }
@@ -87,4 +100,20 @@ pub(crate) fn consistency_roots(
         old: hash::node(top, old),
         new: hash::node(top, new),
     }
+}
+
+// Both roots by as many nodes as the definition counts, of any path; the first root for both where a first size of 0 or above the second
+// has no path, or the path has fewer nodes.
+pub fn yielded_roots(first: Digest, m: u64, n: u64, known: bool, path: &[u8]) -> Roots
+    ensures { λ r. ⌜ r .old .bytes ≡ yieldedOld sha256 m n known (first .bytes) (now (path .entry)) ⌝ }
+    ensures { λ r. ⌜ r .new .bytes ≡ yieldedNew sha256 m n known (first .bytes) (now (path .entry)) ⌝ }
+{
+    let count = subproof_count(m, n, known);
+    if m == 0 || n < m || path.len() / 32 < count {
+        return Roots {
+            old: first,
+            new: first,
+        };
+    }
+    consistency_roots(first, m, n, known, path, count)
 }

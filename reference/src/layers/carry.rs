@@ -18,6 +18,7 @@ pub const LAYER: Layer = Layer {
         Entry { name: "carry", answer: carry, random: random_carry },
         Entry { name: "compare", answer: compare, random: random_compare },
     ],
+    lists: None,
     cases,
     full,
 };

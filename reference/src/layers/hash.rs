@@ -17,6 +17,7 @@ pub const LAYER: Layer = Layer {
         Entry { name: "leaf_into", answer: |words| into(words, LONGEST_ITEM, sha256::leaf), random: random_into },
         Entry { name: "step", answer: step, random: random_step },
     ],
+    lists: None,
     cases,
     full,
 };

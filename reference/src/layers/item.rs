@@ -12,6 +12,7 @@ pub const LAYER: Layer = Layer {
         Entry { name: "write", answer: write, random: random_write },
         Entry { name: "newer", answer: newer, random: random_newer },
     ],
+    lists: None,
     cases,
     full,
 };

@@ -18,6 +18,7 @@ pub const LAYER: Layer = Layer {
         Entry { name: "inclusion", answer: inclusion, random: random_inclusion },
         Entry { name: "consistency", answer: consistency, random: random_consistency },
     ],
+    lists: None,
     cases,
     full,
 };

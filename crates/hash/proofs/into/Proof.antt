@@ -3,7 +3,7 @@ use denote.Ref.{now}
 use mathlib.Core.List.{_++_}
 use mathlib.Core.Path.{_∙_, ap}
 use lib.ListN.{drop}
-use Rattle.hash.specs.declared.State.{State}
+use Rattle.sha256.specs.declared.State.{State}
 use Rattle.hash.specs.Message.{stateBytes}
 use Rattle.hash.specs.Digest.{sha256}
 use Rattle.hash.proofs.Refusals.{into-long, into-short, into-done}

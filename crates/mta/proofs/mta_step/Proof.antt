@@ -3,10 +3,11 @@ use denote.Ref.{now}
 use Prim.Native.Nat.{ℕ}
 use mathlib.Core.Path.{_≡_, sym, ap, _∙_}
 use native.Mathlib.Omega.{arith}
-use Rattle.hash.specs.Words.{wordFrom}
-use Rattle.hash.specs.Sha256.{compress}
+use Rattle.sha256.specs.Words.{wordFrom}
+use Rattle.sha256.specs.Sha256.{compress}
+use Rattle.sha256.proofs.Promises.{step-done}
 use Rattle.mta.specs.Slices.{stateOf, wordsOf}
-use Rattle.mta.proofs.Outcomes.{words-block, words-schedule, words-state, words-done, step-done}
+use Rattle.mta.proofs.Outcomes.{words-block, words-schedule, words-state, words-done}
 use Rattle.mta.proofs.mta_step.Statement.{statement}
 use Rattle.mta.proofs.mta_step.Tie as tie
 

@@ -8,8 +8,9 @@ use lib.Seq.{length-take-le}
 use denote.Ref.{now}
 use borrow.Author.Needs.{needs}
 use Rattle.hash.specs.Digest.{sha256}
-use Rattle.auditor.specs.Heads.{sizeOf, rootOf, headsOf}
-use Rattle.auditor.specs.Dispute.{follow, answer, pairAfter}
+use Rattle.carry.specs.Forward.{carry}
+use Rattle.auditor.specs.Heads.{sizeOf, rootOf, pathOf, headsOf}
+use Rattle.auditor.specs.Dispute.{onward, longestPath, follow, answer, pairAfter}
 use Rattle.auditor.proofs.Copying.{over-start}
 use Rattle.auditor.proofs.Reading.{head-whole}
 use Rattle.auditor.proofs.Telling.{refused-tells, carried-refused, carried-collision, carried-path}
@@ -61,22 +62,32 @@ over-head-requires c κs =
     let w = head-whole _ _ (c .before .before .before .before .before .before .before .head-bytes .ensures) (c .before .before .before .before .before .before .if1 .left) in
     (w .0, w .1, w .2, c .before .before .before .before .before .path-buffer2 .ensures)
 
+-- one head: the whole is what carrying by it leads to
+turn : (c : tie.After-over-head Inv-loop μ-loop) →
+    (let a = c .before .before .before .before .before .before .before .before .before .before .before .before .before .before .before .before .before .before .before .before .before .before .before .before .before .before .args in
+    let L = c .before .before .before .before .before .before .before .before .before .before .before .loop in
+    let rest = take (length (now (a .heads)) - L .at) (drop (L .at) (now (a .heads))) in
+    Left sha256 (a .place) (now (a .page1)) (now (a .page2)) (now (a .path2)) (now (a .heads)) (length (now (a .pair))) 0 (a .size) (now (a .root)) (now (a .path1))
+    ≡ onward (carry sha256 (a .one .bytes) (a .place) (L .m) (sizeOf rest) (L .held) (rootOf rest) (take (L .len) (L .path)) (pathOf rest) longestPath (length (L .pair)))
+    (follow sha256 (a .place) (now (a .page1)) (now (a .page2)) (now (a .path2)) (length (now (a .pair))) (headsOf (drop (L .at + c .before .before .before .before .before .before .before .before .head-bytes .result) (now (a .heads)))) (sizeOf rest) (rootOf rest)))
+turn c =
+    let a = c .before .before .before .before .before .before .before .before .before .before .before .before .before .before .before .before .before .before .before .before .before .before .before .before .before .before .args in
+    let L = c .before .before .before .before .before .before .before .before .before .before .before .loop in
+    sym (L .inv .6) ∙ left-then sha256 (a .place) (now (a .page1)) (now (a .page2)) (now (a .path2)) (now (a .heads)) (length (now (a .pair))) (L .at) (L .m) (L .held) (take (L .len) (L .path)) _ (rest-is (now (a .heads)) (L .at)) _ (c .before .before .before .before .before .before .before .before .head-bytes .ensures) (a .one .bytes) (length (L .pair)) (c .before .before .before .before .before .before .before .if1 .left) (c .before .before .before .before .before .before .before .before .before .before .before .before .before .before .before .before .before .before .before .before .before .before .before .before .before .before .pre .2) (L .inv .4)
+
 returns-2 : tie.Need-returns-2 Inv-loop μ-loop
 returns-2 c =
-    let a = c .before .before .before .before .before .before .before .before .before .before .before .before .before .before .before .before .before .before .before .before .before .before .before .before .before .before .before .before .before .before .before .before .args in
     let L = c .before .before .before .before .before .before .before .before .before .before .before .before .before .before .before .before .before .loop in
     let d = c .before .before .before .before .before .before .over-head .ensures in
-    let e = left-then sha256 (a .place) (now (a .page1)) (now (a .page2)) (now (a .path2)) (now (a .heads)) (length (now (a .pair))) (L .at) (L .m) (L .held) (take (L .len) (L .path)) _ (rest-is (now (a .heads)) (L .at)) _ (c .before .before .before .before .before .before .before .before .before .before .before .before .before .before .head-bytes .ensures) (a .one .bytes) (length (L .pair)) (c .before .before .before .before .before .before .before .before .before .before .before .before .before .if1 .left) (c .before .before .before .before .before .before .before .before .before .before .before .before .before .before .before .before .before .before .before .before .before .before .before .before .before .before .before .before .before .before .before .before .pre .2) (L .inv .4) in
     let q = carried-refused _ _ _ (sym (c .before .carried .given .1) ∙ d .0) in
-    let t = refused-tells _ _ (now (a .pair)) (sym (L .inv .6) ∙ e ∙ q .0) in
+    let t = refused-tells _ _ (now (c .before .before .before .before .before .before .before .before .before .before .before .before .before .before .before .before .before .before .before .before .before .before .before .before .before .before .before .before .before .before .before .before .args .pair)) (turn (c .before .before .before .before .before .before) ∙ q .0) in
     (t .0, d .1 .1 ∙ q .1 (L .pair) ∙ L .inv .5 ∙ t .1)
 
 returns-3 : tie.Need-returns-3 Inv-loop μ-loop
 returns-3 c =
-    let a = c .before .before .before .before .before .before .before .before .before .before .before .before .before .before .before .before .before .before .before .before .before .before .before .before .before .before .before .before .before .before .before .args in
     let L = c .before .before .before .before .before .before .before .before .before .before .before .before .before .before .before .before .loop in
     let d = c .before .before .before .before .before .over-head .ensures in
-    let e = sym (L .inv .6) ∙ left-then sha256 (a .place) (now (a .page1)) (now (a .page2)) (now (a .path2)) (now (a .heads)) (length (now (a .pair))) (L .at) (L .m) (L .held) (take (L .len) (L .path)) _ (rest-is (now (a .heads)) (L .at)) _ (c .before .before .before .before .before .before .before .before .before .before .before .before .before .head-bytes .ensures) (a .one .bytes) (length (L .pair)) (c .before .before .before .before .before .before .before .before .before .before .before .before .if1 .left) (c .before .before .before .before .before .before .before .before .before .before .before .before .before .before .before .before .before .before .before .before .before .before .before .before .before .before .before .before .before .before .before .pre .2) (L .inv .4) in
+    let e = turn (c .before .before .before .before .before) in
     let q = carried-collision _ _ (L .pair) (sym (c .enum-told .given .1) ∙ d .0) in
     (q .0 ∙ ap answer (sym e), d .1 .1 ∙ q .1 ∙ ap₂ pairAfter (sym e) (L .inv .5))
 
@@ -114,10 +125,8 @@ loop-again c =
     let a = c .before .before .before .before .before .before .before .before .before .before .before .before .before .before .before .before .before .before .before .before .before .before .before .before .before .before .before .before .before .before .before .before .before .before .before .args in
     let L = c .before .before .before .before .before .before .before .before .before .before .before .before .before .before .before .before .before .before .before .before .loop in
     let d = c .before .before .before .before .before .before .before .before .before .over-head .ensures in
-    let n = c .before .before .before .before .before .before .before .before .before .before .before .before .before .before .before .before .before .head-bytes .result in
-    let e = left-then sha256 (a .place) (now (a .page1)) (now (a .page2)) (now (a .path2)) (now (a .heads)) (length (now (a .pair))) (L .at) (L .m) (L .held) (take (L .len) (L .path)) _ (rest-is (now (a .heads)) (L .at)) n (c .before .before .before .before .before .before .before .before .before .before .before .before .before .before .before .before .before .head-bytes .ensures) (a .one .bytes) (length (L .pair)) (c .before .before .before .before .before .before .before .before .before .before .before .before .before .before .before .before .if1 .left) (c .before .before .before .before .before .before .before .before .before .before .before .before .before .before .before .before .before .before .before .before .before .before .before .before .before .before .before .before .before .before .before .before .before .before .before .pre .2) (L .inv .4) in
     let rest = take (length (now (a .heads)) - L .at) (drop (L .at) (now (a .heads))) in
-    let q = carried-path _ (follow sha256 (a .place) (now (a .page1)) (now (a .page2)) (now (a .path2)) (length (now (a .pair))) (headsOf (drop (L .at + n) (now (a .heads)))) (sizeOf rest) (rootOf rest)) _ _ _ (sym (c .before .before .before .before .carried2 .given .1) ∙ d .0) (d .1 .0) in
+    let q = carried-path _ (follow sha256 (a .place) (now (a .page1)) (now (a .page2)) (now (a .path2)) (length (now (a .pair))) (headsOf (drop (L .at + c .before .before .before .before .before .before .before .before .before .before .before .before .before .before .before .before .before .head-bytes .result) (now (a .heads)))) (sizeOf rest) (rootOf rest)) _ _ _ (sym (c .before .before .before .before .carried2 .given .1) ∙ d .0) (d .1 .0) in
     let t = d .1 .1 ∙ q .2 (L .pair) ∙ L .inv .5 in (
       next c,
       within _ (c .before .before .before .before .before .before .before .before .before .over-head .last .1 .1 .1 .1 .1 .1 .1 .0) (q .1) (search needs),
@@ -125,7 +134,7 @@ loop-again c =
       search needs,
       ap length t,
       t,
-      rw (c .before .before .size-of .ensures, c .root-of2 .ensures) (sym (q .0) ∙ sym e ∙ L .inv .6),
+      rw (c .before .before .size-of .ensures, c .root-of2 .ensures) (sym (q .0) ∙ sym (turn (c .before .before .before .before .before .before .before .before .before))),
     )
 
 slice-aggregate-settle-3 : tie.Need-slice-aggregate-settle-3 Inv-loop μ-loop

@@ -4,6 +4,7 @@ use Prim.Native.Nat.{_/_}
 use native.Mathlib.Omega.{arith}
 use borrow.Author.Needs.{needs}
 use borrow.Author.Tests.{eq-eqb, eqb-true}
+use Rattle.tree.specs.Count.{consistencyCount}
 use Rattle.carry.proofs.accept.fits.Statement.{statement}
 use Rattle.carry.proofs.accept.fits.Tie as tie
 
@@ -37,15 +38,16 @@ inclusion-count-requires c κs = search needs
 returns-9 : tie.Need-returns-9
 returns-9 c = (λ e. absurd (false≢true e), λ f. absurd (omega (arith, f .path-length, c .before .inclusion-count .ensures)))
 
-consistency-count-requires : tie.Need-consistency-count-requires
-consistency-count-requires c κs = search needs
+subproof-count-requires : tie.Need-subproof-count-requires
+subproof-count-requires c κs = search needs
 
 returns-10 : tie.Need-returns-10
+unfolding consistencyCount
 returns-10 c =
-    let n = c .consistency-count .ensures in
+    let n = c .subproof-count .ensures in
     let m = c .before .before .inclusion-count .ensures in (
       λ e.
-          let k = eqb-true (c .before .before .before .before .before .before .before .before .before .before .before .args .proof / 32) (c .consistency-count .result) e in
+          let k = eqb-true (c .before .before .before .before .before .before .before .before .before .before .before .args .proof / 32) (c .subproof-count .result) e in
           record {
             leaf-32 = omega arith;
             old-32 = omega arith;
@@ -56,7 +58,7 @@ returns-10 c =
             path-length = omega (arith, m);
             proof-length = omega (arith, n, k);
           },
-      λ f. eq-eqb (c .before .before .before .before .before .before .before .before .before .before .before .args .proof / 32) (c .consistency-count .result) (omega (arith, n, f .proof-length)),
+      λ f. eq-eqb (c .before .before .before .before .before .before .before .before .before .before .before .args .proof / 32) (c .subproof-count .result) (omega (arith, n, f .proof-length)),
     )
 
 pub fits-spec : {M : Type 1} → statement M
@@ -73,5 +75,5 @@ fits-spec =
     returns-8
     inclusion-count-requires
     returns-9
-    consistency-count-requires
+    subproof-count-requires
     returns-10)

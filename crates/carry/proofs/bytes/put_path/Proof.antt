@@ -7,6 +7,7 @@ use lib.ListN.{length, take, drop, length-append, length-take, length-drop}
 use lib.Seq.{take-all}
 use denote.Ref.{now}
 use borrow.Author.Needs.{needs}
+use Rattle.tree.proofs.Joining.{copied-fits}
 use Rattle.carry.proofs.Writing.{pasted, then, written}
 use Rattle.carry.proofs.bytes.put_path.Statement.{statement}
 use Rattle.carry.proofs.bytes.put_path.Tie as tie
@@ -23,23 +24,20 @@ mul-q c = search needs
 sub-rest : tie.Need-sub-rest
 sub-rest c = search needs
 
-put-requires : tie.Need-put-requires
-put-requires c κs = search needs
+copy-requires : tie.Need-copy-requires
+copy-requires c κs = search needs
 
-slice-aggregate-put : tie.Need-slice-aggregate-put
-slice-aggregate-put c = search needs
+slice-aggregate-copy : tie.Need-slice-aggregate-copy
+slice-aggregate-copy c = search needs
 
-put-requires-2 : tie.Need-put-requires-2
-put-requires-2 c κs =
-    let start = c .before .before .before .before .before .before .before .before .before .before in
-    let k : length (start .args .sibling .bytes) ≡ 32 = search needs in
-    (omega (arith, start .pre), omega (arith, start .pre, c .before .before .before .before .put .kept .1 .1 .1 .0))
+copy-requires-2 : tie.Need-copy-requires-2
+copy-requires-2 c κs = search needs
 
-add-put : tie.Need-add-put
-add-put c = search needs
+add-copy : tie.Need-add-copy
+add-copy c = search needs
 
-put-requires-3 : tie.Need-put-requires-3
-put-requires-3 c κs = search needs
+copy-requires-3 : tie.Need-copy-requires-3
+copy-requires-3 c κs = search needs
 
 add-result : tie.Need-add-result
 add-result c = search needs
@@ -66,15 +64,17 @@ returns c =
     let l₁ : length (take p path) ≡ p = simp length-take (omega (arith, pre)) in
     let l₂ : length (take e s) ≡ e = simp length-take (omega (arith, pre)) in
     let o₁ = now (start .args .out) in
-    let one = c .before .before .before .before .before .before .before .before .before .before .before .put in
-    let two = c .before .before .before .before .before .before .put2 in
-    let three = c .before .before .put3 in
+    let one = c .before .before .before .before .before .before .before .before .before .before .before .copy in
+    let two = c .before .before .before .before .before .before .copy2 in
+    let three = c .before .before .copy3 in
     let x = one .last .1 .1 .1 .0 in
     let y = two .last .1 .1 .1 .0 in
     let z = three .last .1 .1 .1 .0 in
-    let a = pasted 0 p path o₁ x (omega (arith, pre)) (one .ensures) in
-    let b = pasted p e s x y (omega (arith, pre)) (two .ensures) in
-    let d = rw t at (pasted (p + e) r (drop q proof) y z (simp length-drop (omega (arith, pre))) (three .ensures)) in
+    let lx = one .kept .1 .1 .1 .0 in
+    let ly = two .kept .1 .1 .1 .0 in
+    let a = pasted 0 p path o₁ x (omega (arith, pre)) (copied-fits path 0 p o₁ 0 (omega (arith, pre)) (omega (arith, pre)) (one .ensures)) in
+    let b = pasted p e s x y (omega (arith, pre)) (copied-fits s 0 e x p (omega (arith, pre, k)) (omega (arith, pre, lx)) (two .ensures)) in
+    let d = rw t at (pasted (p + e) r (drop q proof) y z (simp length-drop (omega (arith, pre))) (copied-fits proof q r y (p + e) (omega (arith, pre)) (omega (arith, pre, lx, ly)) (three .ensures))) in
     (simp (length-append, length-take, length-drop) (omega (arith, pre)), written (take p path ++ (take e s ++ drop q proof)) o₁ z (then 0 p p (take p path) (take e s ++ drop q proof) o₁ x z (omega arith) a l₁ (then p e (p + e) (take e s) (drop q proof) x y z refl b l₂ d)))
 
 pub put-path-spec : {M : Type 1} → statement M
@@ -85,11 +85,11 @@ put-path-spec =
     mul-e
     mul-q
     sub-rest
-    put-requires
-    slice-aggregate-put
-    put-requires-2
-    add-put
-    put-requires-3
+    copy-requires
+    slice-aggregate-copy
+    copy-requires-2
+    add-copy
+    copy-requires-3
     add-result
     add-result-2
     same-length

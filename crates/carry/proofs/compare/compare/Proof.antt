@@ -32,18 +32,10 @@ returns-3 c =
     tells-refused (now (a .pair)) (short sha256 (a .place) (a .size) (now (a .root)) (now (a .leaf1)) (now (a .path1)) (now (a .leaf2)) (now (a .path2)) (length (now (a .pair))) (c .before .before .before .before .inclusion-verdict .ensures) (c .before .before .before .if1 .left) (c .before .before .inclusion-verdict2 .ensures) (c .before .if2 .left) (c .if3 .taken))
 
 node-at-requires : tie.Need-node-at-requires
-node-at-requires c κs =
-    let a = c .before .before .before .before .before .before .before .before .before .before .before .args in
-    let p = accepted-proof sha256 (now (a .leaf1)) (a .place) (a .size) (now (a .root)) (now (a .path1)) (c .before .before .before .before .inclusion-verdict .ensures) (c .before .before .before .if1 .left) in
-    let q = accepted-proof sha256 (now (a .leaf2)) (a .place) (a .size) (now (a .root)) (now (a .path2)) (c .before .before .inclusion-verdict2 .ensures) (c .before .if2 .left) in
-    omega (arith, p .0)
+node-at-requires c κs = search needs
 
 node-at-requires-2 : tie.Need-node-at-requires-2
-node-at-requires-2 c κs =
-    let a = c .before .before .before .before .before .before .before .before .before .before .before .before .args in
-    let p = accepted-proof sha256 (now (a .leaf1)) (a .place) (a .size) (now (a .root)) (now (a .path1)) (c .before .before .before .before .before .inclusion-verdict .ensures) (c .before .before .before .before .if1 .left) in
-    let q = accepted-proof sha256 (now (a .leaf2)) (a .place) (a .size) (now (a .root)) (now (a .path2)) (c .before .before .before .inclusion-verdict2 .ensures) (c .before .before .if2 .left) in
-    omega (arith, q .0)
+node-at-requires-2 c κs = search needs
 
 meet-requires : tie.Need-meet-requires
 meet-requires c κs =

@@ -31,16 +31,10 @@ returns c =
     (c .refusal .ensures ∙ t .0, t .1)
 
 node-at-requires : tie.Need-node-at-requires
-node-at-requires c κs =
-    let a = c .before .before .before .before .before .before .before .before .before .args in
-    let fit = c .before .fits2 .ensures .0 (not-false (c .before .fits2 .result) (c .if1 .left)) in
-    omega (arith, fit .leaf-32)
+node-at-requires c κs = search needs
 
 node-at-requires-2 : tie.Need-node-at-requires-2
-node-at-requires-2 c κs =
-    let a = c .before .before .before .before .before .before .before .before .before .before .args in
-    let fit = c .before .before .fits2 .ensures .0 (not-false (c .before .before .fits2 .result) (c .before .if1 .left)) in
-    omega (arith, fit .old-32)
+node-at-requires-2 c κs = search needs
 
 walk-requires : tie.Need-walk-requires
 unfolding consistencyCount

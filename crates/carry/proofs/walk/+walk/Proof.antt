@@ -9,10 +9,10 @@ use Rattle.hash.specs.Digest.{sha256}
 use Rattle.hash.proofs.Promises.{sha256-length}
 use Rattle.tree.specs.Split.{split}
 use Rattle.tree.specs.Joined.{firstNodes}
-use Rattle.tree.proofs.Joining.{All32, all-from, first-length}
+use Rattle.tree.proofs.Joining.{All32, all-from, first-length, hash-in}
 use Rattle.tree.proofs.Splitting.{split-same}
 use Rattle.tree.proofs.Counting.{count-some, count-low, count-high, sub-some, sub-low, sub-high}
-use Rattle.tree.proofs.Yielding.{included-low, included-high}
+use Rattle.tree.proofs.Yielding.{included-low, included-high, yielded-in, both-in}
 use Rattle.carry.proofs.Levels.{old-low, new-low, old-high, new-high}
 use Rattle.carry.specs.Inner.{pathAs}
 use Rattle.carry.proofs.Sizing.{new-32}
@@ -23,11 +23,11 @@ use borrow.Fn.PlainCycle.{Measures, is, falls, and}
 use Rattle.carry.proofs.walk.walk.Reads as walk
 use Rattle.carry.proofs.walk.walk.Kinds as walk-kinds
 use Rattle.carry.proofs.walk.+walk.Lts-walk as walk-lts
-use Rattle.carry.proofs.yields.inclusion_root.Reads as inclusion-root-reads
-use Rattle.carry.proofs.yields.consistency_roots.Reads as consistency-roots-reads
+use Rattle.tree.proofs.yields.yielded_root.Reads as yielded-root-reads
+use Rattle.tree.proofs.yields.yielded_roots.Reads as yielded-roots-reads
 use Rattle.carry.proofs.level.start.Reads as start-reads
-use Rattle.carry.proofs.split.cut.Reads as cut-reads
-use Rattle.carry.proofs.bytes.node_at.Reads as node-at-reads
+use Rattle.tree.proofs.split.cut.Reads as cut-reads
+use Rattle.tree.proofs.nodes.node_at.Reads as node-at-reads
 use Rattle.hash.proofs.node.Reads as node-reads
 use Rattle.carry.proofs.level.above.Reads as above-reads
 use Rattle.carry.proofs.walk.+walk.{statement}
@@ -43,13 +43,44 @@ abbrev walk-below : ℕ → In 2 walk-kinds.ps
 walk-below t = and 2 walk-kinds.ps (falls 2 walk-kinds.ps _<_ μ-walk t) walk.Pre
 
 abbrev calls : ℕ → walk-lts.Claims
-calls t = (inclusion-root-reads.Asked, inclusion-root-reads.Learnt, consistency-roots-reads.Asked, consistency-roots-reads.Learnt, start-reads.Asked, start-reads.Learnt, cut-reads.Asked, cut-reads.Learnt, node-at-reads.Asked, node-at-reads.Learnt, walk-below t, walk.Post, node-reads.Asked, node-reads.Learnt, above-reads.Asked, above-reads.Learnt)
+calls t = (yielded-root-reads.Asked, yielded-root-reads.Learnt, yielded-roots-reads.Asked, yielded-roots-reads.Learnt, start-reads.Asked, start-reads.Learnt, cut-reads.Asked, cut-reads.Learnt, node-at-reads.Asked, node-at-reads.Learnt, walk-below t, walk.Post, node-reads.Asked, node-reads.Learnt, above-reads.Asked, above-reads.Learnt)
 
-walk-inclusion-root-requires : (t : ℕ) → walk-lts.Need-inclusion-root-requires (calls t) (walk-at t) walk.Post
-walk-inclusion-root-requires t c κs = search needs
+-- what is known where the new tree is split: a part of it is old, and the consistency path has a node
+module _ (t : ℕ) (c : walk-lts.After-cut (calls t) (walk-at t) walk.Post) where
+  abbrev entry : walk-lts.Start (calls t) (walk-at t) walk.Post
+  entry = c .before .before .before .before
 
-walk-consistency-roots-requires : (t : ℕ) → walk-lts.Need-consistency-roots-requires (calls t) (walk-at t) walk.Post
-walk-consistency-roots-requires t c κs = search needs
+  old : 0 < entry .args .m
+  old = omega (arith, entry .pre .1 .0)
+
+  part : entry .args .m < entry .args .n
+  part = omega (arith, entry .pre .1 .1, c .before .if1 .left)
+
+  has-node : 0 < entry .args .q
+  has-node = let j = sub-some (entry .args .m) (entry .args .n) (c .cut .result) (entry .args .known) old part (c .cut .ensures .0) in omega (arith, j, entry .pre .1 .4)
+
+-- where the old tree is split too: its split is the same, and the old path has a node
+module _ (t : ℕ) (c : walk-lts.Else2 (calls t) (walk-at t) walk.Post) where
+  abbrev above : walk-lts.Start (calls t) (walk-at t) walk.Post
+  above = entry t (c .before .before)
+
+  two-parts : 1 < above .args .m
+  two-parts = omega (arith, c .if2 .left, c .before .before .cut .ensures .1)
+
+  same-cut : c .before .before .cut .result ≡ split (above .args .m)
+  same-cut =
+      let e = c .before .before .cut .ensures .0 in
+      let lt = part t (c .before .before) in
+      e ∙ sym (split-same (above .args .n) (above .args .m) (omega (arith, two-parts, lt)) (omega (arith, c .if2 .left, e)) (omega (arith, lt)))
+
+  has-side : 0 < above .args .p
+  has-side = let i = count-some (above .args .x) (above .args .m) (c .before .before .cut .result) two-parts same-cut in omega (arith, i, above .pre .1 .2)
+
+walk-yielded-root-requires : (t : ℕ) → walk-lts.Need-yielded-root-requires (calls t) (walk-at t) walk.Post
+walk-yielded-root-requires t c κs = search needs
+
+walk-yielded-roots-requires : (t : ℕ) → walk-lts.Need-yielded-roots-requires (calls t) (walk-at t) walk.Post
+walk-yielded-roots-requires t c κs = search needs
 
 walk-start-requires : (t : ℕ) → walk-lts.Need-start-requires (calls t) (walk-at t) walk.Post
 walk-start-requires t c κs = search needs
@@ -57,52 +88,33 @@ walk-start-requires t c κs = search needs
 walk-returns : (t : ℕ) → walk-lts.Need-returns (calls t) (walk-at t) walk.Post
 unfolding pathAs
 walk-returns t c =
-    let a = c .before .before .before .before .before .before .before .before .args in
+    let start = c .before .before .before .before .before .before .before .before in
+    let a = start .args in
     let e : a .m ≡ a .n = omega arith in
     let z : 0 < a .m = omega arith in
     let k : ℕ = 0 in
     let s = c .start .ensures in
-    let r = c .before .before .before .consistency-roots .ensures in (
-      s .0 .0 ∙ c .before .before .before .before .inclusion-root .ensures,
-      (s .0 .1 ∙ r .0, (r .1, (walked-all sha256 (a .x) (a .m) (a .n) k (a .leaf .bytes) (a .first .bytes) (a .p) (a .q) (now (a .path)) (now (a .proof)) z e (s .1), (path-all sha256 (a .x) (a .m) (a .n) k (a .leaf .bytes) (a .first .bytes) (a .p) (a .q) (now (a .path)) (now (a .proof)) z (c .before .before .before .consistency-roots .result .new .bytes) e, (omega arith, omega arith, omega arith))))),
+    let y = yielded-in sha256 (a .x) (a .m) (a .leaf .bytes) (now (a .path)) (a .p) (start .pre .1 .2) (start .pre .1 .3) (c .before .before .before .before .yielded-root .ensures) in
+    let r = both-in sha256 (a .m) (a .n) (a .first .bytes) (now (a .proof)) (a .known) (a .q) z (start .pre .1 .1) (start .pre .1 .4) (start .pre .1 .5) (c .before .before .before .yielded-roots .ensures) in (
+      s .0 .0 ∙ y,
+      (s .0 .1 ∙ r .0, (r .1, (walked-all sha256 (a .x) (a .m) (a .n) k (a .leaf .bytes) (a .first .bytes) (a .p) (a .q) (now (a .path)) (now (a .proof)) z e (s .1), (path-all sha256 (a .x) (a .m) (a .n) k (a .leaf .bytes) (a .first .bytes) (a .p) (a .q) (now (a .path)) (now (a .proof)) z (c .before .before .before .yielded-roots .result .new .bytes) e, (omega arith, omega arith, omega arith))))),
     )
 
 walk-cut-requires : (t : ℕ) → walk-lts.Need-cut-requires (calls t) (walk-at t) walk.Post
 walk-cut-requires t c κs = search needs
 
 walk-sub-j : (t : ℕ) → walk-lts.Need-sub-j (calls t) (walk-at t) walk.Post
-walk-sub-j t c =
-    let start = c .before .before .before .before in
-    let a = start .args in
-    let k = c .cut .result in
-    let e = c .cut .ensures .0 in
-    let z : 0 < a .m = omega (arith, start .pre .1 .0) in
-    let lt : a .m < a .n = omega (arith, start .pre .1 .1, c .before .if1 .left) in
-    let j = sub-some (a .m) (a .n) k (a .known) z lt e in
-    let some : 0 < a .q = omega (arith, j, start .pre .1 .4) in
-    omega arith
+walk-sub-j t c = let q = has-node t c in omega arith
 
 walk-node-at-requires : (t : ℕ) → walk-lts.Need-node-at-requires (calls t) (walk-at t) walk.Post
-walk-node-at-requires t c κs =
-    let start = c .before .before .before .before in
-    let a = start .args in
-    let k = c .cut .result in
-    let e = c .cut .ensures .0 in
-    let z : 0 < a .m = omega (arith, start .pre .1 .0) in
-    let lt : a .m < a .n = omega (arith, start .pre .1 .1, c .before .if1 .left) in
-    let j = sub-some (a .m) (a .n) k (a .known) z lt e in
-    let some : 0 < a .q = omega (arith, j, start .pre .1 .4) in
-    omega arith
+walk-node-at-requires t c κs = search needs
 
 walk-walk-requires : (t : ℕ) → walk-lts.Need-walk-requires (calls t) (walk-at t) walk.Post
 walk-walk-requires t c κs =
-    let start = c .before .before .before .before .before .before in
-    let a = start .args in
-    let k = c .before .before .cut .result in
-    let e = c .before .before .cut .ensures .0 in
-    let z : 0 < a .m = omega (arith, start .pre .1 .0) in
-    let lt : a .m < a .n = omega (arith, start .pre .1 .1, c .before .before .before .if1 .left) in
-    let d = sub-low (a .m) (a .n) k (a .known) z lt e (c .if2 .taken) in
+    let at = c .before .before in
+    let a = entry t at .args in
+    let lt = part t at in
+    let d = sub-low (a .m) (a .n) (at .cut .result) (a .known) (old t at) lt (at .cut .ensures .0) (c .if2 .taken) in
     (omega arith, (omega arith, omega arith, omega arith, omega arith, omega arith, omega arith))
 
 walk-node-requires : (t : ℕ) → walk-lts.Need-node-requires (calls t) (walk-at t) walk.Post
@@ -111,16 +123,16 @@ walk-node-requires t c κs = search needs
 walk-returns-2 : (t : ℕ) → walk-lts.Need-returns-2 (calls t) (walk-at t) walk.Post
 unfolding pathAs
 walk-returns-2 t c =
-    let start = c .before .before .before .before .before .before .before .before .before .before .before in
+    let at = c .before .before .before .before .before .before .before in
+    let start = entry t at in
     let a = start .args in
-    let k = c .before .before .before .before .before .before .before .cut .result in
-    let e = c .before .before .before .before .before .before .before .cut .ensures .0 in
-    let z : 0 < a .m = omega (arith, start .pre .1 .0) in
-    let lt : a .m < a .n = omega (arith, start .pre .1 .1, c .before .before .before .before .before .before .before .before .if1 .left) in
-    let j = sub-some (a .m) (a .n) k (a .known) z lt e in
-    let some : 0 < a .q = omega (arith, j, start .pre .1 .4) in
+    let k = at .cut .result in
+    let e = at .cut .ensures .0 in
+    let z = old t at in
+    let lt = part t at in
+    let some = has-node t at in
     let l = c .before .before .before .before .before .if2 .taken in
-    let top = c .before .before .before .before .before .before .node-at .ensures in
+    let top = c .before .before .before .before .before .before .node-at .ensures ∙ hash-in (a .q - 1) (now (a .proof)) (omega (arith, some, start .pre .1 .5)) in
     let w = c .before .before .before .before .walk .result in
     let b = c .before .before .before .before .walk .ensures in
     let o = b .1 .1 .1 .1 .1 in (
@@ -138,63 +150,22 @@ walk-returns-2 t c =
     )
 
 walk-sub-i : (t : ℕ) → walk-lts.Need-sub-i (calls t) (walk-at t) walk.Post
-walk-sub-i t c =
-    let start = c .before .before .before .before .before .before in
-    let a = start .args in
-    let k = c .before .before .cut .result in
-    let e = c .before .before .cut .ensures .0 in
-    let z : 0 < a .m = omega (arith, start .pre .1 .0) in
-    let lt : a .m < a .n = omega (arith, start .pre .1 .1, c .before .before .before .if1 .left) in
-    let hi = c .if2 .left in
-    let more : 1 < a .m = omega (arith, hi, c .before .before .cut .ensures .1) in
-    let cut : k ≡ split (a .m) = e ∙ sym (split-same (a .n) (a .m) (omega (arith, z, lt)) (omega (arith, hi, e)) (omega (arith, lt))) in
-    let some = count-some (a .x) (a .m) k more cut in
-    omega arith
+walk-sub-i t c = let p = has-side t c in omega arith
 
 walk-node-at-requires-2 : (t : ℕ) → walk-lts.Need-node-at-requires-2 (calls t) (walk-at t) walk.Post
-walk-node-at-requires-2 t c κs =
-    let start = c .before .before .before .before .before .before in
-    let a = start .args in
-    let k = c .before .before .cut .result in
-    let e = c .before .before .cut .ensures .0 in
-    let z : 0 < a .m = omega (arith, start .pre .1 .0) in
-    let lt : a .m < a .n = omega (arith, start .pre .1 .1, c .before .before .before .if1 .left) in
-    let hi = c .if2 .left in
-    let more : 1 < a .m = omega (arith, hi, c .before .before .cut .ensures .1) in
-    let cut : k ≡ split (a .m) = e ∙ sym (split-same (a .n) (a .m) (omega (arith, z, lt)) (omega (arith, hi, e)) (omega (arith, lt))) in
-    let some = count-some (a .x) (a .m) k more cut in
-    omega arith
+walk-node-at-requires-2 t c κs = search needs
 
-walk-inclusion-root-requires-2 : (t : ℕ) → walk-lts.Need-inclusion-root-requires-2 (calls t) (walk-at t) walk.Post
-walk-inclusion-root-requires-2 t c κs =
-    let start = c .before .before .before .before .before .before .before .before in
-    let a = start .args in
-    let k = c .before .before .before .before .cut .result in
-    let e = c .before .before .before .before .cut .ensures .0 in
-    let z : 0 < a .m = omega (arith, start .pre .1 .0) in
-    let lt : a .m < a .n = omega (arith, start .pre .1 .1, c .before .before .before .before .before .if1 .left) in
-    let hi = c .before .before .if2 .left in
-    let more : 1 < a .m = omega (arith, hi, c .before .before .before .before .cut .ensures .1) in
-    let cut : k ≡ split (a .m) = e ∙ sym (split-same (a .n) (a .m) (omega (arith, z, lt)) (omega (arith, hi, e)) (omega (arith, lt))) in
-    let d = count-low (a .x) (a .m) k more cut (c .if3 .taken) in
-    (omega arith, omega arith, omega arith)
+walk-yielded-root-requires-2 : (t : ℕ) → walk-lts.Need-yielded-root-requires-2 (calls t) (walk-at t) walk.Post
+walk-yielded-root-requires-2 t c κs = search needs
 
-walk-sub-consistency-roots : (t : ℕ) → walk-lts.Need-sub-consistency-roots (calls t) (walk-at t) walk.Post
-walk-sub-consistency-roots t c = search needs
+walk-sub-yielded-roots : (t : ℕ) → walk-lts.Need-sub-yielded-roots (calls t) (walk-at t) walk.Post
+walk-sub-yielded-roots t c = search needs
 
-walk-sub-consistency-roots-2 : (t : ℕ) → walk-lts.Need-sub-consistency-roots-2 (calls t) (walk-at t) walk.Post
-walk-sub-consistency-roots-2 t c = search needs
+walk-sub-yielded-roots-2 : (t : ℕ) → walk-lts.Need-sub-yielded-roots-2 (calls t) (walk-at t) walk.Post
+walk-sub-yielded-roots-2 t c = search needs
 
-walk-consistency-roots-requires-2 : (t : ℕ) → walk-lts.Need-consistency-roots-requires-2 (calls t) (walk-at t) walk.Post
-walk-consistency-roots-requires-2 t c κs =
-    let start = c .before .before .before .before .before .before .before .before .before in
-    let a = start .args in
-    let k = c .before .before .before .before .before .cut .result in
-    let e = c .before .before .before .before .before .cut .ensures .0 in
-    let z : 0 < a .m = omega (arith, start .pre .1 .0) in
-    let lt : a .m < a .n = omega (arith, start .pre .1 .1, c .before .before .before .before .before .before .if1 .left) in
-    let d = sub-high (a .m) (a .n) k (a .known) z lt e (c .before .before .before .if2 .left) in
-    (omega arith, omega arith, omega arith, omega arith)
+walk-yielded-roots-requires-2 : (t : ℕ) → walk-lts.Need-yielded-roots-requires-2 (calls t) (walk-at t) walk.Post
+walk-yielded-roots-requires-2 t c κs = search needs
 
 walk-start-requires-2 : (t : ℕ) → walk-lts.Need-start-requires-2 (calls t) (walk-at t) walk.Post
 walk-start-requires-2 t c κs = search needs
@@ -208,26 +179,27 @@ walk-node-requires-2 t c κs = search needs
 walk-returns-3 : (t : ℕ) → walk-lts.Need-returns-3 (calls t) (walk-at t) walk.Post
 unfolding pathAs
 walk-returns-3 t c =
-    let start = c .before .before .before .before .before .before .before .before .before .before .before .before .before .before .before in
+    let here = c .before .before .before .before .before .before .before .before .before in
+    let at = here .before .before in
+    let start = entry t at in
     let a = start .args in
-    let k = c .before .before .before .before .before .before .before .before .before .before .before .cut .result in
-    let e = c .before .before .before .before .before .before .before .before .before .before .before .cut .ensures .0 in
-    let z : 0 < a .m = omega (arith, start .pre .1 .0) in
-    let lt : a .m < a .n = omega (arith, start .pre .1 .1, c .before .before .before .before .before .before .before .before .before .before .before .before .if1 .left) in
-    let j = sub-some (a .m) (a .n) k (a .known) z lt e in
-    let some : 0 < a .q = omega (arith, j, start .pre .1 .4) in
-    let hi = c .before .before .before .before .before .before .before .before .before .if2 .left in
-    let more : 1 < a .m = omega (arith, hi, c .before .before .before .before .before .before .before .before .before .before .before .cut .ensures .1) in
-    let cut : k ≡ split (a .m) = e ∙ sym (split-same (a .n) (a .m) (omega (arith, z, lt)) (omega (arith, hi, e)) (omega (arith, lt))) in
-    let i = count-some (a .x) (a .m) k more cut in
-    let side : 0 < a .p = omega (arith, i, start .pre .1 .2) in
+    let k = at .cut .result in
+    let e = at .cut .ensures .0 in
+    let z = old t at in
+    let lt = part t at in
+    let some = has-node t at in
+    let hi = here .if2 .left in
+    let more = two-parts t here in
+    let cut = same-cut t here in
+    let side = has-side t here in
     let l = c .before .before .before .before .before .before .before .if3 .taken in
-    let top = c .before .before .before .before .before .before .before .before .before .before .node-at .ensures in
-    let beside = c .before .before .before .before .before .before .before .before .node-at2 .ensures in
-    let y = c .before .before .before .before .before .before .inclusion-root2 .ensures in
-    let r = c .before .before .before .before .before .consistency-roots2 .ensures in
-    let w = c .before .before .before .before .before .consistency-roots2 .result .new .bytes in
+    let top = c .before .before .before .before .before .before .before .before .before .before .node-at .ensures ∙ hash-in (a .q - 1) (now (a .proof)) (omega (arith, some, start .pre .1 .5)) in
+    let beside = c .before .before .before .before .before .before .before .before .node-at2 .ensures ∙ hash-in (a .p - 1) (now (a .path)) (omega (arith, side, start .pre .1 .3)) in
+    let w = c .before .before .before .before .before .yielded-roots2 .result .new .bytes in
     let d = sub-high (a .m) (a .n) k (a .known) z lt e hi in
+    let g = count-low (a .x) (a .m) k more cut l in
+    let y = yielded-in sha256 (a .x) k (a .leaf .bytes) (now (a .path)) (a .p - 1) (omega (arith, g, start .pre .1 .2)) (omega (arith, start .pre .1 .3)) (c .before .before .before .before .before .before .yielded-root2 .ensures) in
+    let r = both-in sha256 (a .m - k) (a .n - k) (a .first .bytes) (now (a .proof)) false (a .q - 1) (omega (arith, hi)) (omega (arith, lt)) (omega (arith, d, start .pre .1 .4)) (omega (arith, start .pre .1 .5)) (c .before .before .before .before .before .yielded-roots2 .ensures) in
     let nodes = firstNodes (a .q - 1) (now (a .proof)) in
     let all : All32 nodes = all-from 0 (a .q - 1) (now (a .proof)) (omega (arith, some, start .pre .1 .5)) in
     let len = ap length (r .1) ∙ new-32 sha256 sha256-length (a .m - k) (a .n - k) false (a .first .bytes) nodes (omega (arith, hi)) (λ t. absurd (false≢true t)) all (first-length (a .q - 1) (now (a .proof)) ∙ omega (arith, d, start .pre .1 .4)) (omega (arith, lt)) in
@@ -253,17 +225,12 @@ walk-sub-walk-2 t c = search needs
 
 walk-walk-requires-2 : (t : ℕ) → walk-lts.Need-walk-requires-2 (calls t) (walk-at t) walk.Post
 walk-walk-requires-2 t c κs =
-    let start = c .before .before .before .before .before .before .before .before in
-    let a = start .args in
-    let k = c .before .before .before .before .cut .result in
-    let e = c .before .before .before .before .cut .ensures .0 in
-    let z : 0 < a .m = omega (arith, start .pre .1 .0) in
-    let lt : a .m < a .n = omega (arith, start .pre .1 .1, c .before .before .before .before .before .if1 .left) in
-    let hi = c .before .before .if2 .left in
-    let more : 1 < a .m = omega (arith, hi, c .before .before .before .before .cut .ensures .1) in
-    let cut : k ≡ split (a .m) = e ∙ sym (split-same (a .n) (a .m) (omega (arith, z, lt)) (omega (arith, hi, e)) (omega (arith, lt))) in
-    let d = sub-high (a .m) (a .n) k (a .known) z lt e hi in
-    let f = count-high (a .x) (a .m) k more cut (c .if3 .left) in
+    let here = c .before .before in
+    let at = here .before .before in
+    let a = entry t at .args in
+    let lt = part t at in
+    let d = sub-high (a .m) (a .n) (at .cut .result) (a .known) (old t at) lt (at .cut .ensures .0) (here .if2 .left) in
+    let f = count-high (a .x) (a .m) (at .cut .result) (two-parts t here) (same-cut t here) (c .if3 .left) in
     (omega arith, (omega arith, omega arith, omega arith, omega arith, omega arith, omega arith))
 
 walk-above-requires-2 : (t : ℕ) → walk-lts.Need-above-requires-2 (calls t) (walk-at t) walk.Post
@@ -275,22 +242,22 @@ walk-node-requires-3 t c κs = search needs
 walk-returns-4 : (t : ℕ) → walk-lts.Need-returns-4 (calls t) (walk-at t) walk.Post
 unfolding pathAs
 walk-returns-4 t c =
-    let start = c .before .before .before .before .before .before .before .before .before .before .before .before .before .before .before .before in
+    let here = c .before .before .before .before .before .before .before .before .before .before in
+    let at = here .before .before in
+    let start = entry t at in
     let a = start .args in
-    let k = c .before .before .before .before .before .before .before .before .before .before .before .before .cut .result in
-    let e = c .before .before .before .before .before .before .before .before .before .before .before .before .cut .ensures .0 in
-    let z : 0 < a .m = omega (arith, start .pre .1 .0) in
-    let lt : a .m < a .n = omega (arith, start .pre .1 .1, c .before .before .before .before .before .before .before .before .before .before .before .before .before .if1 .left) in
-    let j = sub-some (a .m) (a .n) k (a .known) z lt e in
-    let some : 0 < a .q = omega (arith, j, start .pre .1 .4) in
-    let hi = c .before .before .before .before .before .before .before .before .before .before .if2 .left in
-    let more : 1 < a .m = omega (arith, hi, c .before .before .before .before .before .before .before .before .before .before .before .before .cut .ensures .1) in
-    let cut : k ≡ split (a .m) = e ∙ sym (split-same (a .n) (a .m) (omega (arith, z, lt)) (omega (arith, hi, e)) (omega (arith, lt))) in
-    let i = count-some (a .x) (a .m) k more cut in
-    let side : 0 < a .p = omega (arith, i, start .pre .1 .2) in
+    let k = at .cut .result in
+    let e = at .cut .ensures .0 in
+    let z = old t at in
+    let lt = part t at in
+    let some = has-node t at in
+    let hi = here .if2 .left in
+    let more = two-parts t here in
+    let cut = same-cut t here in
+    let side = has-side t here in
     let l = c .before .before .before .before .before .before .before .before .if3 .left in
-    let top = c .before .before .before .before .before .before .before .before .before .before .before .node-at .ensures in
-    let beside = c .before .before .before .before .before .before .before .before .before .node-at2 .ensures in
+    let top = c .before .before .before .before .before .before .before .before .before .before .before .node-at .ensures ∙ hash-in (a .q - 1) (now (a .proof)) (omega (arith, some, start .pre .1 .5)) in
+    let beside = c .before .before .before .before .before .before .before .before .before .node-at2 .ensures ∙ hash-in (a .p - 1) (now (a .path)) (omega (arith, side, start .pre .1 .3)) in
     let w = c .before .before .before .before .before .before .before .walk2 .result in
     let b = c .before .before .before .before .before .before .before .walk2 .ensures in
     let o = b .1 .1 .1 .1 .1 in
@@ -315,8 +282,8 @@ pub +walk-spec : {M : Type 1} → statement M
 +walk-spec = close μ-walk λ t. walk-lts.spec (calls t)
     (walk-at t)
     walk.Post
-    (walk-inclusion-root-requires t)
-    (walk-consistency-roots-requires t)
+    (walk-yielded-root-requires t)
+    (walk-yielded-roots-requires t)
     (walk-start-requires t)
     (walk-returns t)
     (walk-cut-requires t)
@@ -327,10 +294,10 @@ pub +walk-spec : {M : Type 1} → statement M
     (walk-returns-2 t)
     (walk-sub-i t)
     (walk-node-at-requires-2 t)
-    (walk-inclusion-root-requires-2 t)
-    (walk-sub-consistency-roots t)
-    (walk-sub-consistency-roots-2 t)
-    (walk-consistency-roots-requires-2 t)
+    (walk-yielded-root-requires-2 t)
+    (walk-sub-yielded-roots t)
+    (walk-sub-yielded-roots-2 t)
+    (walk-yielded-roots-requires-2 t)
     (walk-start-requires-2 t)
     (walk-above-requires t)
     (walk-node-requires-2 t)

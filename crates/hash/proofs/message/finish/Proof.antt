@@ -4,8 +4,8 @@ use denote.Ref.{now}
 use mathlib.Core.Path.{refl, _∙_}
 use Prim.Native.Nat.{_+_}
 use lib.ListN.{length}
-use Rattle.hash.specs.Sha256.{compress}
-use Rattle.hash.proofs.Schedule.{compress-same}
+use Rattle.sha256.specs.Sha256.{compress}
+use Rattle.sha256.proofs.Promises.{compress-same}
 use Rattle.hash.proofs.Padding.{parts-length, one-block, two-blocks}
 use Rattle.hash.proofs.message.finish.Statement.{statement}
 use Rattle.hash.proofs.message.finish.Tie as tie
@@ -18,7 +18,7 @@ returns c =
     let a = c .before .before .before .before .before .before .before .before .before .before .before .before .args in
     let h = now (a .head) in
     let t = now (a .rest) in
-    c .before .before .before .compress .ensures .0
+    c .before .before .before .compress .ensures
     ∙ one-block compress compress-same (a .s) _ _ (length h + length t) _ (c .before .before .before .before .before .before .before .pack .ensures) (search needs) (parts-length h t (a .n) (c .before .before .before .before .before .before .before .before .before .before .before .before .pre .2)) (c .if1 .taken)
 
 returns-2 : tie.Need-returns-2
@@ -26,8 +26,8 @@ returns-2 c =
     let a = c .before .before .before .before .before .before .before .before .before .before .before .before .before .before .before .before .before .args in
     let h = now (a .head) in
     let t = now (a .rest) in
-    c .before .before .compress2 .ensures .0
-    ∙ rw (c .before .before .before .before .before .before .before .before .compress .ensures .0)
+    c .before .before .compress2 .ensures
+    ∙ rw (c .before .before .before .before .before .before .before .before .compress .ensures)
     (two-blocks compress compress-same (a .s) _ _ (length h + length t) _ (c .before .before .before .before .before .before .before .before .before .before .before .before .pack .ensures) (search needs) (parts-length h t (a .n) (c .before .before .before .before .before .before .before .before .before .before .before .before .before .before .before .before .before .pre .2)) (c .before .before .before .before .before .if1 .left) (c .before .before .before .before .before .before .before .before .before .before .before .before .before .before .before .before .before .pre .0))
 
 pub finish-spec : {M : Type 1} → statement M

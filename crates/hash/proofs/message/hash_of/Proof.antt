@@ -2,8 +2,8 @@ use native.Mathlib.Omega.{arith}
 use borrow.Author.Needs.{needs}
 use denote.Ref.{now}
 use mathlib.Core.Path.{refl, _∙_}
-use Rattle.hash.specs.Sha256.{compress, initial}
-use Rattle.hash.proofs.Schedule.{compress-same}
+use Rattle.sha256.specs.Sha256.{compress, initial}
+use Rattle.sha256.proofs.Promises.{compress-same}
 use Rattle.hash.proofs.Padding.{short-ends}
 use Rattle.hash.proofs.message.hash_of.Statement.{statement}
 use Rattle.hash.proofs.message.hash_of.Tie as tie

@@ -5,11 +5,11 @@ use mathlib.Core.List.{[], _++_}
 use Prim.Native.Nat.{_+_, _-_, _/_, _%_, _≤_}
 use native.Mathlib.Nat.{le-refl}
 use native.Mathlib.Omega.{arith}
-use lib.ListN.{length, take, drop, length-drop}
+use lib.ListN.{length, drop, length-drop}
 use lib.Seq.{take-all, length-take-le}
-use Rattle.hash.specs.Sha256.{compress, initial}
+use Rattle.sha256.specs.Sha256.{compress, initial}
 use Rattle.hash.specs.Message.{absorbed}
-use Rattle.hash.proofs.Schedule.{compress-same}
+use Rattle.sha256.proofs.Promises.{compress-same}
 use Rattle.hash.proofs.Padding.{next-block, long-ends}
 use Rattle.hash.proofs.message.long.Statement.{statement}
 use Rattle.hash.proofs.message.long.Tie as tie
@@ -36,7 +36,7 @@ loop-again c =
       search needs,
       omega arith,
       l .inv .3,
-      rw e (c .before .before .compress .ensures .0 ∙ rw (l .inv .4) (next-block compress compress-same initial (now (a .head)) (now (a .m)) (l .p) i (omega arith) (omega arith))),
+      rw e (c .before .before .compress .ensures ∙ rw (l .inv .4) (next-block compress compress-same initial (now (a .head)) (now (a .m)) (l .p) i (omega arith) (omega arith))),
     )
 
 finish-requires : tie.Need-finish-requires Inv-loop μ-loop

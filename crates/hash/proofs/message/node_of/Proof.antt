@@ -5,9 +5,9 @@ use mathlib.Core.List.{List, _∷_, _++_, append-nil}
 use Prim.Native.Nat.{ℕ, _+_}
 use lib.ListN.{length}
 use lib.Seq.{take-length}
-use Rattle.hash.specs.Sha256.{compress, initial}
+use Rattle.sha256.specs.Sha256.{compress, initial}
 use Rattle.hash.specs.Message.{hashValue}
-use Rattle.hash.proofs.Schedule.{compress-same}
+use Rattle.sha256.proofs.Promises.{compress-same}
 use Rattle.hash.proofs.Padding.{short-ends}
 use Rattle.hash.proofs.message.node_of.Statement.{statement}
 use Rattle.hash.proofs.message.node_of.Tie as tie

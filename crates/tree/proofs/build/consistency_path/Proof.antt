@@ -9,6 +9,7 @@ use Rattle.hash.specs.Digest.{sha256}
 use Rattle.hash.proofs.Promises.{sha256-length}
 use mathlib.Core.Bool.{true}
 use Rattle.tree.specs.Tree.{subproof, consistency}
+use Rattle.tree.specs.Count.{consistencyCount}
 use Rattle.tree.specs.Joined.{nodes, joined}
 use Rattle.tree.proofs.Building.{proof-10, proof-zero, proof-6, proof-in, proof-bytes, short, long, tells-refused, tells-from, from-start}
 use Rattle.tree.proofs.build.consistency_path.Statement.{statement}
@@ -32,10 +33,11 @@ returns-3 c =
     let a = c .before .before .before .before .before .before .args in
     tells-refused (now (a .out)) (proof-6 sha256 (now (a .leaves)) (a .first) (length (now (a .out))) (sym (c .before .before .before .bad-leaves .ensures) ∙ c .before .before .if1 .left) (omega arith) (omega arith))
 
-consistency-count-requires : tie.Need-consistency-count-requires
-consistency-count-requires c κs = omega arith
+subproof-count-requires : tie.Need-subproof-count-requires
+subproof-count-requires c κs = omega arith
 
 returns-4 : tie.Need-returns-4
+unfolding consistencyCount
 returns-4 c =
     let a = c .before .before .before .before .before .before .before .before .args in
     let s = now (a .leaves) in
@@ -44,7 +46,7 @@ returns-4 c =
     tells-refused (now (a .out)) (proof-in sha256 s (a .first) r (sym (c .before .before .before .before .before .bad-leaves .ensures) ∙ c .before .before .before .before .if1 .left) (omega arith) (omega arith) ∙ short r (joined (consistency sha256 (a .first) (nodes s))) (omega arith))
 
 proof-into-requires : tie.Need-proof-into-requires
-unfolding consistency
+unfolding consistency consistencyCount
 proof-into-requires c κs =
     let a = c .before .before .before .before .before .before .before .before .before .args in
     let s = now (a .leaves) in
@@ -55,7 +57,7 @@ same-length : tie.Need-same-length
 same-length c = omega arith
 
 returns-5 : tie.Need-returns-5
-unfolding consistency
+unfolding consistency consistencyCount
 returns-5 c =
     let a = c .before .before .before .before .before .before .before .before .before .before .before .before .args in
     let s = now (a .leaves) in
@@ -72,7 +74,7 @@ consistency-path-spec =
     returns
     returns-2
     returns-3
-    consistency-count-requires
+    subproof-count-requires
     returns-4
     proof-into-requires
     same-length

@@ -12,26 +12,29 @@ use Rattle.tree.specs.Tree.{root}
 use Rattle.tree.specs.Joined.{nodes}
 use Rattle.tree.proofs.Joining.{all-nodes}
 use Rattle.tree.proofs.Completing.{root-32}
-use Rattle.tree.proofs.Building.{bytes-0, root-refused, root-fit, root-in, short, long, tells-refused, tells-wrote, over-whole}
+use Rattle.tree.proofs.Building.{bytes-0, root-10, root-in, short, long, tells-refused, tells-wrote, over-whole}
 use Rattle.tree.proofs.build.root.Statement.{statement}
 use Rattle.tree.proofs.build.root.Tie as tie
 
-root-of-requires : tie.Need-root-of-requires
-root-of-requires c κs = omega arith
+bad-leaves-requires : tie.Need-bad-leaves-requires
+bad-leaves-requires c κs = omega arith
 
 returns : tie.Need-returns
 returns c =
     let a = c .before .before .before .before .args in
-    tells-refused (now (a .out)) (root-refused sha256 (now (a .leaves)) (length (now (a .out))) (c .before .root-of .result .number) (c .before .root-of .ensures .0) (c .if1 .taken))
+    tells-refused (now (a .out)) (root-10 sha256 (now (a .leaves)) (length (now (a .out))) (sym (c .before .bad-leaves .ensures) ∙ c .if1 .taken))
 
 returns-2 : tie.Need-returns-2
 returns-2 c =
     let a = c .before .before .before .before .before .args in
     let s = now (a .leaves) in
     let r = length (now (a .out)) in
-    let u = root-fit s _ (c .before .before .root-of .ensures .0) (omega arith) in
+    let u = sym (c .before .before .bad-leaves .ensures) ∙ c .before .if1 .left in
     let w = root-32 sha256 sha256-length (nodes s) (all-nodes s) in
     tells-refused (now (a .out)) (root-in sha256 s r u ∙ short r (root sha256 (nodes s)) (omega arith))
+
+root-of-requires : tie.Need-root-of-requires
+root-of-requires c κs = omega arith
 
 put-node-requires : tie.Need-put-node-requires
 put-node-requires c κs = omega arith
@@ -41,15 +44,14 @@ same-length c = omega arith
 
 returns-3 : tie.Need-returns-3
 returns-3 c =
-    let a = c .before .before .before .before .before .before .before .before .before .before .args in
+    let a = c .before .before .before .before .before .before .before .before .before .before .before .args in
     let s = now (a .leaves) in
     let o = now (a .out) in
-    let made = c .before .before .before .before .before .before .before .root-of .ensures in
-    let u = root-fit s _ (made .0) (omega arith) in
+    let u = sym (c .before .before .before .before .before .before .before .before .bad-leaves .ensures) ∙ c .before .before .before .before .before .before .before .if1 .left in
     let w = root-32 sha256 sha256-length (nodes s) (all-nodes s) in
-    let y = c .before .before .put-node .ensures ∙ ap (λ (h : List ℕ). paste o 0 h 32) (made .1 ∙ bytes-0 sha256 s u) in
+    let y = c .before .before .put-node .ensures ∙ ap (λ (h : List ℕ). paste o 0 h 32) (c .before .before .before .before .before .root-of .ensures .1 ∙ bytes-0 sha256 s u) in
     tells-wrote o (root-in sha256 s (length o) u ∙ long (length o) (root sha256 (nodes s)) (omega arith)) (sym w) (over-whole (root sha256 (nodes s)) o w y)
 
 pub root-spec : {M : Type 1} → statement M
 root-spec =
-    tie.close (tie.spec root-of-requires returns returns-2 put-node-requires same-length returns-3)
+    tie.close (tie.spec bad-leaves-requires returns returns-2 root-of-requires put-node-requires same-length returns-3)

@@ -7,26 +7,26 @@ use native.Mathlib.Omega.{arith}
 use Rattle.tree.specs.Split.{split}
 use Rattle.tree.specs.Count.{inclusionCount}
 use Rattle.tree.proofs.Splitting.{split-ends}
-use Rattle.tree.proofs.Counting.{count-one, count-low, count-high}
+use Rattle.tree.proofs.Counting.{count-few, count-low, count-high}
 use Rattle.tree.proofs.count.inclusion_count.Statement.{statement}
 use Rattle.tree.proofs.count.inclusion_count.Tie as tie
 
 -- place m of n is left, and c nodes are counted
 abbrev Left : ℕ → ℕ → ℕ → ℕ → ℕ → Type 0
-Left place size m n c = (m < n) × (c + n ≤ size) × (c + inclusionCount m n ≡ inclusionCount place size)
+Left place size m n c = (c + n ≤ size) × (c + inclusionCount m n ≡ inclusionCount place size)
 
 module _ (place size m n c k : ℕ) (more : 1 < n) (cut : k ≡ split n) (left : Left place size m n c) where
   low : m < k → Left place size m k (c + 1)
   low h =
       let s = split-ends n more in
       let q = count-low m n k more cut h in
-      (omega arith, omega arith, omega arith)
+      (omega arith, omega arith)
 
   high : k ≤ m → Left place size (m - k) (n - k) (c + 1)
   high h =
       let s = split-ends n more in
       let q = count-high m n k more cut h in
-      (omega arith, omega arith, omega arith)
+      (omega arith, omega arith)
 
 abbrev Inv-loop : tie.InvT-loop
 Inv-loop place size m₀ n₀ c₀ m n c = Left place size m n c
@@ -65,8 +65,7 @@ loop-again c =
 returns : tie.Need-returns Inv-loop μ-loop
 returns c =
     let n = c .before .loop .n in
-    let e : n ≡ 1 = omega arith in
-    let r : inclusionCount (c .before .loop .m) n ≡ 0 = rw e (count-one (c .before .loop .m)) in
+    let r = count-few (c .before .loop .m) n (c .loop-test .left) in
     omega arith
 
 pub inclusion-count-spec : {M : Type 1} → statement M

@@ -1,7 +1,9 @@
 -- The proof of the cycle of calls {part_root}. The measure is the count of leaves. Assumes nothing.
+use mathlib.Core.Path.{_∙_}
 use native.Mathlib.Omega.{arith}
 use denote.Ref.{now}
 use Rattle.hash.specs.Digest.{sha256}
+use Rattle.tree.proofs.Joining.{hash-in}
 use Rattle.tree.proofs.Parting.{root-single, root-parts}
 use Prim.Native.Nat.{ℕ, _<_}
 use borrow.Fn.Kinds.{In}
@@ -34,7 +36,7 @@ part-root-node-at-requires t c κs = omega arith
 part-root-returns : (t : ℕ) → part-root-lts.Need-returns (calls t) (part-root-at t) part-root.Post
 part-root-returns t c =
     let a = c .before .before .before .args in
-    root-single sha256 (a .from) (a .n) (now (a .leaves)) (omega arith) (c .node-at .ensures)
+    root-single sha256 (a .from) (a .n) (now (a .leaves)) (omega arith) (c .node-at .ensures ∙ hash-in (a .from) (now (a .leaves)) (omega arith))
 
 part-root-cut-requires : (t : ℕ) → part-root-lts.Need-cut-requires (calls t) (part-root-at t) part-root.Post
 part-root-cut-requires t c κs = omega arith

@@ -1,10 +1,12 @@
 -- The proof of the cycle of calls {path_into}: one law for each side of the split. The measure is the count of leaves. Assumes nothing.
-use Prim.Native.Nat.{ℕ, _<_}
+use Prim.Native.Nat.{ℕ, _+_, _-_, _<_}
 use native.Mathlib.Omega.{arith}
 use denote.Ref.{now}
 use Rattle.hash.specs.Digest.{sha256}
+use Rattle.tree.specs.Tree.{root, path}
+use Rattle.tree.specs.Joined.{nodesFrom}
 use Rattle.hash.proofs.Promises.{sha256-length}
-use Rattle.tree.proofs.Parting.{path-single, path-grows-first, path-grows-rest, over-none, over-more}
+use Rattle.tree.proofs.Parting.{Grows, path-single, path-grows-first, path-grows-rest, over-none, over-more}
 use borrow.Fn.Kinds.{In}
 use borrow.Fn.PlainCycle.{Measures, is, falls, and}
 use Rattle.tree.proofs.parts.path_into.Reads as path-into
@@ -28,6 +30,29 @@ path-into-below t =
 abbrev calls : ℕ → path-into-lts.Claims
 calls t = (cut-reads.Asked, cut-reads.Learnt, path-into-below t, path-into.Post, put-root-reads.Asked, put-root-reads.Learnt)
 
+-- by what the path of a part grows
+module _ (t : ℕ) (c : path-into-lts.Then2 (calls t) (path-into-at t) path-into.Post) where
+  abbrev entry₁ : path-into-lts.Start (calls t) (path-into-at t) path-into.Post
+  entry₁ = c .before .before .before .before .before
+
+  abbrev cut₁ : ℕ
+  cut₁ = c .before .cut .result
+
+  first-grows : Grows (path sha256 (entry₁ .args .place) (nodesFrom (entry₁ .args .from) cut₁ (now (entry₁ .args .leaves)))) (path sha256 (entry₁ .args .place) (nodesFrom (entry₁ .args .from) (entry₁ .args .n) (now (entry₁ .args .leaves)))) (root sha256 (nodesFrom (entry₁ .args .from + cut₁) (entry₁ .args .n - cut₁) (now (entry₁ .args .leaves))))
+  first-grows =
+      path-grows-first sha256 sha256-length (entry₁ .args .from) (entry₁ .args .n) (now (entry₁ .args .leaves)) (omega arith) cut₁ (omega arith) (c .before .cut .ensures .0) (entry₁ .args .place) (c .if2 .taken)
+
+module _ (t : ℕ) (c : path-into-lts.Else2 (calls t) (path-into-at t) path-into.Post) where
+  abbrev entry₂ : path-into-lts.Start (calls t) (path-into-at t) path-into.Post
+  entry₂ = c .before .before .before .before .before
+
+  abbrev cut₂ : ℕ
+  cut₂ = c .before .cut .result
+
+  rest-grows : Grows (path sha256 (entry₂ .args .place - cut₂) (nodesFrom (entry₂ .args .from + cut₂) (entry₂ .args .n - cut₂) (now (entry₂ .args .leaves)))) (path sha256 (entry₂ .args .place) (nodesFrom (entry₂ .args .from) (entry₂ .args .n) (now (entry₂ .args .leaves)))) (root sha256 (nodesFrom (entry₂ .args .from) cut₂ (now (entry₂ .args .leaves))))
+  rest-grows =
+      path-grows-rest sha256 sha256-length (entry₂ .args .from) (entry₂ .args .n) (now (entry₂ .args .leaves)) (omega arith) cut₂ (omega arith) (c .before .cut .ensures .0) (entry₂ .args .place) (c .if2 .left)
+
 path-into-returns : (t : ℕ) → path-into-lts.Need-returns (calls t) (path-into-at t) path-into.Post
 path-into-returns t c =
     let a = c .before .before .before .args in
@@ -37,10 +62,7 @@ path-into-cut-requires : (t : ℕ) → path-into-lts.Need-cut-requires (calls t)
 path-into-cut-requires t c κs = omega arith
 
 path-into-path-into-requires : (t : ℕ) → path-into-lts.Need-path-into-requires (calls t) (path-into-at t) path-into.Post
-path-into-path-into-requires t c κs =
-    let a = c .before .before .before .before .before .before .args in
-    let g = path-grows-first sha256 sha256-length (a .from) (a .n) (now (a .leaves)) (omega arith) (c .before .before .cut .result) (omega arith) (c .before .before .cut .ensures .0) (a .place) (c .before .if2 .taken) in
-    (omega arith, (omega arith, omega arith, omega arith))
+path-into-path-into-requires t c κs = let g = first-grows t (c .before) in (omega arith, (omega arith, omega arith, omega arith))
 
 path-into-add-put-root : (t : ℕ) → path-into-lts.Need-add-put-root (calls t) (path-into-at t) path-into.Post
 path-into-add-put-root t c = omega arith
@@ -50,8 +72,7 @@ path-into-sub-put-root t c = omega arith
 
 path-into-put-root-requires : (t : ℕ) → path-into-lts.Need-put-root-requires (calls t) (path-into-at t) path-into.Post
 path-into-put-root-requires t c κs =
-    let a = c .before .before .before .before .before .before .before .before .before .before .args in
-    let g = path-grows-first sha256 sha256-length (a .from) (a .n) (now (a .leaves)) (omega arith) (c .before .before .before .before .before .before .cut .result) (omega arith) (c .before .before .before .before .before .before .cut .ensures .0) (a .place) (c .before .before .before .before .before .if2 .taken) in
+    let g = first-grows t (c .before .before .before .before .before) in
     let call = c .before .before .before .path-into in
     (omega arith, omega arith, omega (arith, call .ensures .0, call .kept .1 .1 .1 .1 .0))
 
@@ -60,11 +81,9 @@ path-into-same-length t c = omega arith
 
 path-into-returns-2 : (t : ℕ) → path-into-lts.Need-returns-2 (calls t) (path-into-at t) path-into.Post
 path-into-returns-2 t c =
-    let a = c .before .before .before .before .before .before .before .before .before .before .before .before .before .args in
-    let g = path-grows-first sha256 sha256-length (a .from) (a .n) (now (a .leaves)) (omega arith) (c .before .before .before .before .before .before .before .before .before .cut .result) (omega arith) (c .before .before .before .before .before .before .before .before .before .cut .ensures .0) (a .place) (c .before .before .before .before .before .before .before .before .if2 .taken) in
     let call = c .before .before .before .before .before .before .path-into .ensures in
     let put = c .before .before .put-root .ensures in
-    over-more (now (a .out)) g (call .0) (call .1) (put .0) (put .1)
+    over-more (now (c .before .before .before .before .before .before .before .before .before .before .before .before .before .args .out)) (first-grows t (c .before .before .before .before .before .before .before .before)) (call .0) (call .1) (put .0) (put .1)
 
 path-into-add-path-into : (t : ℕ) → path-into-lts.Need-add-path-into (calls t) (path-into-at t) path-into.Post
 path-into-add-path-into t c = omega arith
@@ -73,15 +92,11 @@ path-into-sub-path-into : (t : ℕ) → path-into-lts.Need-sub-path-into (calls 
 path-into-sub-path-into t c = omega arith
 
 path-into-path-into-requires-2 : (t : ℕ) → path-into-lts.Need-path-into-requires-2 (calls t) (path-into-at t) path-into.Post
-path-into-path-into-requires-2 t c κs =
-    let a = c .before .before .before .before .before .before .args in
-    let g = path-grows-rest sha256 sha256-length (a .from) (a .n) (now (a .leaves)) (omega arith) (c .before .before .cut .result) (omega arith) (c .before .before .cut .ensures .0) (a .place) (c .before .if2 .left) in
-    (omega arith, (omega arith, omega arith, omega arith))
+path-into-path-into-requires-2 t c κs = let g = rest-grows t (c .before) in (omega arith, (omega arith, omega arith, omega arith))
 
 path-into-put-root-requires-2 : (t : ℕ) → path-into-lts.Need-put-root-requires-2 (calls t) (path-into-at t) path-into.Post
 path-into-put-root-requires-2 t c κs =
-    let a = c .before .before .before .before .before .before .before .before .before .before .args in
-    let g = path-grows-rest sha256 sha256-length (a .from) (a .n) (now (a .leaves)) (omega arith) (c .before .before .before .before .before .before .cut .result) (omega arith) (c .before .before .before .before .before .before .cut .ensures .0) (a .place) (c .before .before .before .before .before .if2 .left) in
+    let g = rest-grows t (c .before .before .before .before .before) in
     let call = c .before .before .before .path-into2 in
     (omega arith, omega arith, omega (arith, call .ensures .0, call .kept .1 .1 .1 .1 .0))
 
@@ -90,11 +105,9 @@ path-into-same-length-2 t c = omega arith
 
 path-into-returns-3 : (t : ℕ) → path-into-lts.Need-returns-3 (calls t) (path-into-at t) path-into.Post
 path-into-returns-3 t c =
-    let a = c .before .before .before .before .before .before .before .before .before .before .before .before .before .args in
-    let g = path-grows-rest sha256 sha256-length (a .from) (a .n) (now (a .leaves)) (omega arith) (c .before .before .before .before .before .before .before .before .before .cut .result) (omega arith) (c .before .before .before .before .before .before .before .before .before .cut .ensures .0) (a .place) (c .before .before .before .before .before .before .before .before .if2 .left) in
     let call = c .before .before .before .before .before .before .path-into2 .ensures in
     let put = c .before .before .put-root2 .ensures in
-    over-more (now (a .out)) g (call .0) (call .1) (put .0) (put .1)
+    over-more (now (c .before .before .before .before .before .before .before .before .before .before .before .before .before .args .out)) (rest-grows t (c .before .before .before .before .before .before .before .before)) (call .0) (call .1) (put .0) (put .1)
 
 pub +path-into-spec : {M : Type 1} → statement M
 +path-into-spec = close μ-path-into λ t. path-into-lts.spec (calls t)

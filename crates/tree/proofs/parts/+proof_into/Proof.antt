@@ -1,12 +1,15 @@
 -- The proof of the cycle of calls {proof_into}: one law for each side of the split. The measure is the count of leaves. Assumes nothing.
 use mathlib.Core.Path.{refl}
+use mathlib.Core.Bool.{false}
 use mathlib.Core.List.{[]}
-use Prim.Native.Nat.{ℕ, _<_}
+use Prim.Native.Nat.{ℕ, _+_, _-_, _<_}
 use native.Mathlib.Omega.{arith}
 use denote.Ref.{now}
 use Rattle.hash.specs.Digest.{sha256}
+use Rattle.tree.specs.Tree.{root, subproof}
+use Rattle.tree.specs.Joined.{nodesFrom}
 use Rattle.hash.proofs.Promises.{sha256-length}
-use Rattle.tree.proofs.Parting.{sub-known, sub-grows-all, sub-grows-first, sub-grows-rest, over-none, over-more}
+use Rattle.tree.proofs.Parting.{Grows, sub-known, sub-grows-all, sub-grows-first, sub-grows-rest, over-none, over-more}
 use borrow.Fn.Kinds.{In}
 use borrow.Fn.PlainCycle.{Measures, is, falls, and}
 use Rattle.tree.proofs.parts.proof_into.Reads as proof-into
@@ -30,6 +33,29 @@ proof-into-below t =
 
 abbrev calls : ℕ → proof-into-lts.Claims
 calls t = (put-root-reads.Asked, put-root-reads.Learnt, cut-reads.Asked, cut-reads.Learnt, proof-into-below t, proof-into.Post)
+
+-- by what the path of a part grows
+module _ (t : ℕ) (c : proof-into-lts.Then3 (calls t) (proof-into-at t) proof-into.Post) where
+  abbrev entry₁ : proof-into-lts.Start (calls t) (proof-into-at t) proof-into.Post
+  entry₁ = c .before .before .before .before .before
+
+  abbrev cut₁ : ℕ
+  cut₁ = c .before .cut .result
+
+  first-grows : Grows (subproof sha256 (entry₁ .args .m) (nodesFrom (entry₁ .args .from) cut₁ (now (entry₁ .args .leaves))) (entry₁ .args .known)) (subproof sha256 (entry₁ .args .m) (nodesFrom (entry₁ .args .from) (entry₁ .args .n) (now (entry₁ .args .leaves))) (entry₁ .args .known)) (root sha256 (nodesFrom (entry₁ .args .from + cut₁) (entry₁ .args .n - cut₁) (now (entry₁ .args .leaves))))
+  first-grows =
+      sub-grows-first sha256 sha256-length (entry₁ .args .from) (entry₁ .args .n) (now (entry₁ .args .leaves)) (omega arith) (entry₁ .args .m) (entry₁ .args .known) (omega arith) cut₁ (omega arith) (c .before .cut .ensures .0) (c .if3 .taken)
+
+module _ (t : ℕ) (c : proof-into-lts.Else3 (calls t) (proof-into-at t) proof-into.Post) where
+  abbrev entry₂ : proof-into-lts.Start (calls t) (proof-into-at t) proof-into.Post
+  entry₂ = c .before .before .before .before .before
+
+  abbrev cut₂ : ℕ
+  cut₂ = c .before .cut .result
+
+  rest-grows : Grows (subproof sha256 (entry₂ .args .m - cut₂) (nodesFrom (entry₂ .args .from + cut₂) (entry₂ .args .n - cut₂) (now (entry₂ .args .leaves))) false) (subproof sha256 (entry₂ .args .m) (nodesFrom (entry₂ .args .from) (entry₂ .args .n) (now (entry₂ .args .leaves))) (entry₂ .args .known)) (root sha256 (nodesFrom (entry₂ .args .from) cut₂ (now (entry₂ .args .leaves))))
+  rest-grows =
+      sub-grows-rest sha256 sha256-length (entry₂ .args .from) (entry₂ .args .n) (now (entry₂ .args .leaves)) (omega arith) (entry₂ .args .m) (entry₂ .args .known) (omega arith) cut₂ (omega arith) (c .before .cut .ensures .0) (c .if3 .left)
 
 proof-into-returns : (t : ℕ) → proof-into-lts.Need-returns (calls t) (proof-into-at t) proof-into.Post
 proof-into-returns t c =
@@ -57,10 +83,7 @@ proof-into-cut-requires : (t : ℕ) → proof-into-lts.Need-cut-requires (calls 
 proof-into-cut-requires t c κs = omega arith
 
 proof-into-proof-into-requires : (t : ℕ) → proof-into-lts.Need-proof-into-requires (calls t) (proof-into-at t) proof-into.Post
-proof-into-proof-into-requires t c κs =
-    let a = c .before .before .before .before .before .before .args in
-    let g = sub-grows-first sha256 sha256-length (a .from) (a .n) (now (a .leaves)) (omega arith) (a .m) (a .known) (omega arith) (c .before .before .cut .result) (omega arith) (c .before .before .cut .ensures .0) (c .before .if3 .taken) in
-    (omega arith, (omega arith, omega arith, omega arith, omega arith))
+proof-into-proof-into-requires t c κs = let g = first-grows t (c .before) in (omega arith, (omega arith, omega arith, omega arith, omega arith))
 
 proof-into-add-put-root : (t : ℕ) → proof-into-lts.Need-add-put-root (calls t) (proof-into-at t) proof-into.Post
 proof-into-add-put-root t c = omega arith
@@ -70,8 +93,7 @@ proof-into-sub-put-root t c = omega arith
 
 proof-into-put-root-requires-2 : (t : ℕ) → proof-into-lts.Need-put-root-requires-2 (calls t) (proof-into-at t) proof-into.Post
 proof-into-put-root-requires-2 t c κs =
-    let a = c .before .before .before .before .before .before .before .before .before .before .args in
-    let g = sub-grows-first sha256 sha256-length (a .from) (a .n) (now (a .leaves)) (omega arith) (a .m) (a .known) (omega arith) (c .before .before .before .before .before .before .cut .result) (omega arith) (c .before .before .before .before .before .before .cut .ensures .0) (c .before .before .before .before .before .if3 .taken) in
+    let g = first-grows t (c .before .before .before .before .before) in
     let call = c .before .before .before .proof-into in
     (omega arith, omega arith, omega (arith, call .ensures .0, call .kept .1 .1 .1 .1 .1 .0))
 
@@ -80,11 +102,9 @@ proof-into-same-length-2 t c = omega arith
 
 proof-into-returns-3 : (t : ℕ) → proof-into-lts.Need-returns-3 (calls t) (proof-into-at t) proof-into.Post
 proof-into-returns-3 t c =
-    let a = c .before .before .before .before .before .before .before .before .before .before .before .before .before .args in
-    let g = sub-grows-first sha256 sha256-length (a .from) (a .n) (now (a .leaves)) (omega arith) (a .m) (a .known) (omega arith) (c .before .before .before .before .before .before .before .before .before .cut .result) (omega arith) (c .before .before .before .before .before .before .before .before .before .cut .ensures .0) (c .before .before .before .before .before .before .before .before .if3 .taken) in
     let call = c .before .before .before .before .before .before .proof-into .ensures in
     let put = c .before .before .put-root2 .ensures in
-    over-more (now (a .out)) g (call .0) (call .1) (put .0) (put .1)
+    over-more (now (c .before .before .before .before .before .before .before .before .before .before .before .before .before .args .out)) (first-grows t (c .before .before .before .before .before .before .before .before)) (call .0) (call .1) (put .0) (put .1)
 
 proof-into-add-proof-into : (t : ℕ) → proof-into-lts.Need-add-proof-into (calls t) (proof-into-at t) proof-into.Post
 proof-into-add-proof-into t c = omega arith
@@ -96,15 +116,11 @@ proof-into-sub-proof-into-2 : (t : ℕ) → proof-into-lts.Need-sub-proof-into-2
 proof-into-sub-proof-into-2 t c = omega arith
 
 proof-into-proof-into-requires-2 : (t : ℕ) → proof-into-lts.Need-proof-into-requires-2 (calls t) (proof-into-at t) proof-into.Post
-proof-into-proof-into-requires-2 t c κs =
-    let a = c .before .before .before .before .before .before .args in
-    let g = sub-grows-rest sha256 sha256-length (a .from) (a .n) (now (a .leaves)) (omega arith) (a .m) (a .known) (omega arith) (c .before .before .cut .result) (omega arith) (c .before .before .cut .ensures .0) (c .before .if3 .left) in
-    (omega arith, (omega arith, omega arith, omega arith, omega arith))
+proof-into-proof-into-requires-2 t c κs = let g = rest-grows t (c .before) in (omega arith, (omega arith, omega arith, omega arith, omega arith))
 
 proof-into-put-root-requires-3 : (t : ℕ) → proof-into-lts.Need-put-root-requires-3 (calls t) (proof-into-at t) proof-into.Post
 proof-into-put-root-requires-3 t c κs =
-    let a = c .before .before .before .before .before .before .before .before .before .before .args in
-    let g = sub-grows-rest sha256 sha256-length (a .from) (a .n) (now (a .leaves)) (omega arith) (a .m) (a .known) (omega arith) (c .before .before .before .before .before .before .cut .result) (omega arith) (c .before .before .before .before .before .before .cut .ensures .0) (c .before .before .before .before .before .if3 .left) in
+    let g = rest-grows t (c .before .before .before .before .before) in
     let call = c .before .before .before .proof-into2 in
     (omega arith, omega arith, omega (arith, call .ensures .0, call .kept .1 .1 .1 .1 .1 .0))
 
@@ -113,11 +129,9 @@ proof-into-same-length-3 t c = omega arith
 
 proof-into-returns-4 : (t : ℕ) → proof-into-lts.Need-returns-4 (calls t) (proof-into-at t) proof-into.Post
 proof-into-returns-4 t c =
-    let a = c .before .before .before .before .before .before .before .before .before .before .before .before .before .args in
-    let g = sub-grows-rest sha256 sha256-length (a .from) (a .n) (now (a .leaves)) (omega arith) (a .m) (a .known) (omega arith) (c .before .before .before .before .before .before .before .before .before .cut .result) (omega arith) (c .before .before .before .before .before .before .before .before .before .cut .ensures .0) (c .before .before .before .before .before .before .before .before .if3 .left) in
     let call = c .before .before .before .before .before .before .proof-into2 .ensures in
     let put = c .before .before .put-root3 .ensures in
-    over-more (now (a .out)) g (call .0) (call .1) (put .0) (put .1)
+    over-more (now (c .before .before .before .before .before .before .before .before .before .before .before .before .before .args .out)) (rest-grows t (c .before .before .before .before .before .before .before .before)) (call .0) (call .1) (put .0) (put .1)
 
 pub +proof-into-spec : {M : Type 1} → statement M
 +proof-into-spec = close μ-proof-into λ t. proof-into-lts.spec (calls t)

@@ -10,8 +10,8 @@ use denote.Ref.{now}
 use Rattle.hash.specs.Digest.{sha256}
 use Rattle.tree.specs.Count.{consistencyCount}
 use Rattle.tree.specs.Yield.{oldRoot, newRoot}
-use Rattle.tree.specs.Joined.{firstNodes, nodes, nodeAt, same}
-use Rattle.tree.proofs.Joining.{whole-node, nodes-first}
+use Rattle.tree.specs.Joined.{firstNodes, nodes, hashAt, same}
+use Rattle.tree.proofs.Joining.{whole-hash, nodes-first}
 use Rattle.tree.specs.Verdict.{consistencyVerdict}
 use Rattle.tree.proofs.Answering.{one-5, two-5, path-10, outside-6, count-7, other-8, right-0, sizes-none, sizes-many, sizes-past, sizes-in, first-apart, second-apart, both-agree}
 use Rattle.tree.proofs.verdict.consistency_verdict.Statement.{statement}
@@ -19,12 +19,12 @@ use Rattle.tree.proofs.verdict.consistency_verdict.Tie as tie
 
 -- what the code yields is what the definition yields
 module _ (first second : ℕ) (old new path : List ℕ) {x l : List ℕ} where
-  pub new-is : x ≡ newRoot sha256 first second true l (firstNodes (length path / 32) path) → l ≡ nodeAt 0 old → length old ≡ 32 → same (newRoot sha256 first second true old (nodes path)) new ≡ same x new
-  new-is e d h = ap (λ (y : List ℕ). same y new) (sym (e ∙ ap₂ (λ (y : List ℕ) (p : List (List ℕ)). newRoot sha256 first second true y p) (d ∙ whole-node old h) (sym (nodes-first path))))
+  pub new-is : x ≡ newRoot sha256 first second true l (firstNodes (length path / 32) path) → l ≡ hashAt 0 old → length old ≡ 32 → same (newRoot sha256 first second true old (nodes path)) new ≡ same x new
+  new-is e d h = ap (λ (y : List ℕ). same y new) (sym (e ∙ ap₂ (λ (y : List ℕ) (p : List (List ℕ)). newRoot sha256 first second true y p) (d ∙ whole-hash old h) (sym (nodes-first path))))
 
 module _ (first second : ℕ) (old path : List ℕ) {x l : List ℕ} where
-  pub old-is : x ≡ oldRoot sha256 first second true l (firstNodes (length path / 32) path) → l ≡ nodeAt 0 old → length old ≡ 32 → same (oldRoot sha256 first second true old (nodes path)) old ≡ same x old
-  old-is e d h = ap (λ (y : List ℕ). same y old) (sym (e ∙ ap₂ (λ (y : List ℕ) (p : List (List ℕ)). oldRoot sha256 first second true y p) (d ∙ whole-node old h) (sym (nodes-first path))))
+  pub old-is : x ≡ oldRoot sha256 first second true l (firstNodes (length path / 32) path) → l ≡ hashAt 0 old → length old ≡ 32 → same (oldRoot sha256 first second true old (nodes path)) old ≡ same x old
+  old-is e d h = ap (λ (y : List ℕ). same y old) (sym (e ∙ ap₂ (λ (y : List ℕ) (p : List (List ℕ)). oldRoot sha256 first second true y p) (d ∙ whole-hash old h) (sym (nodes-first path))))
 
 returns : tie.Need-returns
 unfolding consistencyVerdict
@@ -50,25 +50,24 @@ returns-6 : tie.Need-returns-6
 unfolding consistencyVerdict
 returns-6 c = let a = c .before .before .before .before .before .before .before .before .before .args in outside-6 _ _ _ _ _ _ (omega arith) (omega arith) (omega arith) (sizes-past (a .first) (a .second) (omega arith))
 
-consistency-count-requires : tie.Need-consistency-count-requires
-consistency-count-requires c κs = omega arith
+subproof-count-requires : tie.Need-subproof-count-requires
+subproof-count-requires c κs = omega arith
 
 returns-7 : tie.Need-returns-7
-unfolding consistencyVerdict
+unfolding consistencyVerdict consistencyCount
 returns-7 c = let a = c .before .before .before .before .before .before .before .before .before .before .before .args in count-7 _ _ _ _ _ _ (omega arith) (omega arith) (omega arith) (sizes-in (a .first) (a .second) (omega arith) (omega arith) (omega arith)) (omega arith)
 
 node-at-requires : tie.Need-node-at-requires
 node-at-requires c κs = omega arith
 
 consistency-roots-requires : tie.Need-consistency-roots-requires
-unfolding consistencyCount
 consistency-roots-requires c κs = (omega arith, omega arith, omega arith, omega arith)
 
 equals-requires : tie.Need-equals-requires
 equals-requires c κs = omega arith
 
 returns-8 : tie.Need-returns-8
-unfolding consistencyVerdict
+unfolding consistencyVerdict consistencyCount
 returns-8 c =
     let a = c .before .before .before .before .before .before .before .before .before .before .before .before .before .before .before .before .args in
     let e = c .before .before .before .consistency-roots .ensures in
@@ -79,7 +78,7 @@ equals-requires-2 : tie.Need-equals-requires-2
 equals-requires-2 c κs = omega arith
 
 returns-9 : tie.Need-returns-9
-unfolding consistencyVerdict
+unfolding consistencyVerdict consistencyCount
 returns-9 c =
     let a = c .before .before .before .before .before .before .before .before .before .before .before .before .before .before .before .before .before .before .before .args in
     let e = c .before .before .before .before .before .before .consistency-roots .ensures in
@@ -87,7 +86,7 @@ returns-9 c =
     other-8 _ _ _ _ _ _ (omega arith) (omega arith) (omega arith) (sizes-in (a .first) (a .second) (omega arith) (omega arith) (omega arith)) (omega arith) (second-apart _ _ (old-is (a .first) (a .second) (now (a .old)) (now (a .path)) (e .0) f (omega arith) ∙ sym (c .before .before .before .before .equals .ensures) ∙ not-false (c .before .before .before .before .equals .result) (c .before .before .before .if8 .left)) (new-is (a .first) (a .second) (now (a .old)) (now (a .new)) (now (a .path)) (e .1) f (omega arith) ∙ sym (c .before .equals2 .ensures) ∙ not-true (c .before .equals2 .result) (c .if9 .taken)))
 
 returns-10 : tie.Need-returns-10
-unfolding consistencyVerdict
+unfolding consistencyVerdict consistencyCount
 returns-10 c =
     let a = c .before .before .before .before .before .before .before .before .before .before .before .before .before .before .before .before .before .before .before .args in
     let e = c .before .before .before .before .before .before .consistency-roots .ensures in
@@ -104,7 +103,7 @@ consistency-verdict-spec =
     returns-4
     returns-5
     returns-6
-    consistency-count-requires
+    subproof-count-requires
     returns-7
     node-at-requires
     consistency-roots-requires

@@ -8,16 +8,16 @@ use borrow.Author.Tests.{not-true, not-false}
 use denote.Ref.{now}
 use Rattle.hash.specs.Digest.{sha256}
 use Rattle.tree.specs.Yield.{inclusionRoot}
-use Rattle.tree.specs.Joined.{firstNodes, nodes, nodeAt, same}
-use Rattle.tree.proofs.Joining.{whole-node, nodes-first}
+use Rattle.tree.specs.Joined.{firstNodes, nodes, hashAt, same}
+use Rattle.tree.proofs.Joining.{whole-hash, nodes-first}
 use Rattle.tree.specs.Verdict.{inclusionVerdict}
 use Rattle.tree.proofs.Answering.{one-5, two-5, path-10, outside-6, count-7, other-8, right-0, place-none, place-many, place-past, place-in}
 use Rattle.tree.proofs.verdict.inclusion_verdict.Statement.{statement}
 use Rattle.tree.proofs.verdict.inclusion_verdict.Tie as tie
 
 -- what the code yields is what the definition yields
-yielded : (leaf : List ℕ) (place size : ℕ) (path : List ℕ) {x l : List ℕ} → x ≡ inclusionRoot sha256 place size l (firstNodes (length path / 32) path) → l ≡ nodeAt 0 leaf → length leaf ≡ 32 → x ≡ inclusionRoot sha256 place size leaf (nodes path)
-yielded leaf place size path e d h = e ∙ ap₂ (λ (y : List ℕ) (p : List (List ℕ)). inclusionRoot sha256 place size y p) (d ∙ whole-node leaf h) (sym (nodes-first path))
+yielded : (leaf : List ℕ) (place size : ℕ) (path : List ℕ) {x l : List ℕ} → x ≡ inclusionRoot sha256 place size l (firstNodes (length path / 32) path) → l ≡ hashAt 0 leaf → length leaf ≡ 32 → x ≡ inclusionRoot sha256 place size leaf (nodes path)
+yielded leaf place size path e d h = e ∙ ap₂ (λ (y : List ℕ) (p : List (List ℕ)). inclusionRoot sha256 place size y p) (d ∙ whole-hash leaf h) (sym (nodes-first path))
 
 returns : tie.Need-returns
 unfolding inclusionVerdict

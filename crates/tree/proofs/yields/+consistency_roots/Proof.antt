@@ -3,9 +3,10 @@ use mathlib.Core.Path.{_≡_, _∙_}
 use native.Mathlib.Omega.{arith}
 use denote.Ref.{now}
 use Rattle.hash.specs.Digest.{sha256}
+use Rattle.tree.proofs.Joining.{hash-in}
 use Rattle.tree.proofs.Counting.{sub-all, sub-some, sub-low, sub-high}
 use Rattle.tree.proofs.Yielding.{both-known, both-unknown, both-low, both-high}
-use Prim.Native.Nat.{ℕ, _<_}
+use Prim.Native.Nat.{ℕ, _-_, _<_}
 use borrow.Fn.Kinds.{In}
 use borrow.Fn.PlainCycle.{Measures, is, falls, and}
 use Rattle.tree.proofs.yields.consistency_roots.Reads as consistency-roots
@@ -29,41 +30,56 @@ consistency-roots-below t = and 1 consistency-roots-kinds.ps (falls 1 consistenc
 abbrev calls : ℕ → consistency-roots-lts.Claims
 calls t = (node-at-reads.Asked, node-at-reads.Learnt, cut-reads.Asked, cut-reads.Learnt, consistency-roots-below t, consistency-roots.Post, node-reads.Asked, node-reads.Learnt)
 
+-- what is known where all leaves are old and their root is not known: the path has that one node
+module _ (t : ℕ) (c : consistency-roots-lts.Else2 (calls t) (consistency-roots-at t) consistency-roots.Post) where
+  one-node : c .before .before .before .args .count ≡ 1
+  one-node =
+      let a = c .before .before .before .args in
+      c .before .before .before .pre .1 .2 ∙ sub-all (a .m) (a .n) (a .known) (omega arith) ∙ rw (c .if2 .left)
+
+-- what is known where the new size is split: a part is old, and the path has a node
+module _ (t : ℕ) (c : consistency-roots-lts.After-cut (calls t) (consistency-roots-at t) consistency-roots.Post) where
+  abbrev entry : consistency-roots-lts.Start (calls t) (consistency-roots-at t) consistency-roots.Post
+  entry = c .before .before .before
+
+  old : 0 < entry .args .m
+  old = omega (arith, entry .pre .1 .0)
+
+  part : entry .args .m < entry .args .n
+  part = omega (arith, entry .pre .1 .1, c .before .if1 .left)
+
+  some : 0 < entry .args .count
+  some = let i = sub-some (entry .args .m) (entry .args .n) (c .cut .result) (entry .args .known) old part (c .cut .ensures .0) in omega (arith, i, entry .pre .1 .2)
+
 consistency-roots-returns : (t : ℕ) → consistency-roots-lts.Need-returns (calls t) (consistency-roots-at t) consistency-roots.Post
 consistency-roots-returns t c =
     let a = c .before .before .before .args in
     both-known sha256 (a .m) (a .n) 0 (a .first .bytes) (a .count) (now (a .path)) (a .known) (omega arith) (omega arith) (c .if2 .taken)
 
 consistency-roots-node-at-requires : (t : ℕ) → consistency-roots-lts.Need-node-at-requires (calls t) (consistency-roots-at t) consistency-roots.Post
-consistency-roots-node-at-requires t c κs =
-    let a = c .before .before .before .args in
-    let q : a .count ≡ 1 = c .before .before .before .pre .1 .2 ∙ sub-all (a .m) (a .n) (a .known) (omega arith) (omega arith) ∙ rw (c .if2 .left) in
-    omega arith
+consistency-roots-node-at-requires t c κs = omega arith
 
 consistency-roots-returns-2 : (t : ℕ) → consistency-roots-lts.Need-returns-2 (calls t) (consistency-roots-at t) consistency-roots.Post
 consistency-roots-returns-2 t c =
     let a = c .before .before .before .before .args in
-    both-unknown sha256 (a .m) (a .n) 0 (a .first .bytes) (a .count) (now (a .path)) (a .known) (omega arith) (omega arith) (c .before .if2 .left) (c .before .before .before .before .pre .1 .2) (c .node-at .ensures)
+    let q = one-node t (c .before) in
+    both-unknown sha256 (a .m) (a .n) 0 (a .first .bytes) (a .count) (now (a .path)) (a .known) (omega arith) (omega arith) (c .before .if2 .left) (c .before .before .before .before .pre .1 .2) (c .node-at .ensures ∙ hash-in 0 (now (a .path)) (omega arith))
 
 consistency-roots-cut-requires : (t : ℕ) → consistency-roots-lts.Need-cut-requires (calls t) (consistency-roots-at t) consistency-roots.Post
 consistency-roots-cut-requires t c κs = omega arith
 
 consistency-roots-sub-c : (t : ℕ) → consistency-roots-lts.Need-sub-c (calls t) (consistency-roots-at t) consistency-roots.Post
-consistency-roots-sub-c t c =
-    let a = c .before .before .before .args in
-    let some = sub-some (a .m) (a .n) (c .cut .result) (a .known) (omega arith) (omega arith) (c .cut .ensures .0) in
-    omega arith
+consistency-roots-sub-c t c = let j = some t c in omega arith
 
 consistency-roots-node-at-requires-2 : (t : ℕ) → consistency-roots-lts.Need-node-at-requires-2 (calls t) (consistency-roots-at t) consistency-roots.Post
-consistency-roots-node-at-requires-2 t c κs =
-    let a = c .before .before .before .args in
-    let some = sub-some (a .m) (a .n) (c .cut .result) (a .known) (omega arith) (omega arith) (c .cut .ensures .0) in
-    omega arith
+consistency-roots-node-at-requires-2 t c κs = omega arith
 
 consistency-roots-consistency-roots-requires : (t : ℕ) → consistency-roots-lts.Need-consistency-roots-requires (calls t) (consistency-roots-at t) consistency-roots.Post
 consistency-roots-consistency-roots-requires t c κs =
-    let a = c .before .before .before .before .before .args in
-    let less = sub-low (a .m) (a .n) (c .before .before .cut .result) (a .known) (omega arith) (omega arith) (c .before .before .cut .ensures .0) (c .if3 .taken) in
+    let at = c .before .before in
+    let a = entry t at .args in
+    let lt = part t at in
+    let less = sub-low (a .m) (a .n) (at .cut .result) (a .known) (old t at) lt (at .cut .ensures .0) (c .if3 .taken) in
     (omega arith, (omega arith, omega arith, omega arith, omega arith))
 
 consistency-roots-node-requires : (t : ℕ) → consistency-roots-lts.Need-node-requires (calls t) (consistency-roots-at t) consistency-roots.Post
@@ -71,10 +87,10 @@ consistency-roots-node-requires t c κs = omega arith
 
 consistency-roots-returns-3 : (t : ℕ) → consistency-roots-lts.Need-returns-3 (calls t) (consistency-roots-at t) consistency-roots.Post
 consistency-roots-returns-3 t c =
-    let a = c .before .before .before .before .before .before .before .before .before .args in
-    let some = sub-some (a .m) (a .n) (c .before .before .before .before .before .before .cut .result) (a .known) (omega arith) (omega arith) (c .before .before .before .before .before .before .cut .ensures .0) in
-    both-low sha256 (a .m) (a .n) (c .before .before .before .before .before .before .cut .result) (a .first .bytes) (a .count) (now (a .path)) (a .known) (omega arith) (omega arith) (omega arith) (c .before .before .before .before .before .before .cut .ensures .0)
-    (c .before .before .before .before .if3 .taken) (c .before .before .before .consistency-roots .ensures) (c .before .before .before .before .before .node-at2 .ensures) (c .node .ensures)
+    let at = c .before .before .before .before .before .before in
+    let a = entry t at .args in
+    both-low sha256 (a .m) (a .n) (at .cut .result) (a .first .bytes) (a .count) (now (a .path)) (a .known) (old t at) (some t at) (part t at) (at .cut .ensures .0)
+    (c .before .before .before .before .if3 .taken) (c .before .before .before .consistency-roots .ensures) (c .before .before .before .before .before .node-at2 .ensures ∙ hash-in (a .count - 1) (now (a .path)) (omega (arith, some t at))) (c .node .ensures)
 
 consistency-roots-sub-consistency-roots : (t : ℕ) → consistency-roots-lts.Need-sub-consistency-roots (calls t) (consistency-roots-at t) consistency-roots.Post
 consistency-roots-sub-consistency-roots t c = omega arith
@@ -84,8 +100,10 @@ consistency-roots-sub-consistency-roots-2 t c = omega arith
 
 consistency-roots-consistency-roots-requires-2 : (t : ℕ) → consistency-roots-lts.Need-consistency-roots-requires-2 (calls t) (consistency-roots-at t) consistency-roots.Post
 consistency-roots-consistency-roots-requires-2 t c κs =
-    let a = c .before .before .before .before .before .args in
-    let less = sub-high (a .m) (a .n) (c .before .before .cut .result) (a .known) (omega arith) (omega arith) (c .before .before .cut .ensures .0) (c .if3 .left) in
+    let at = c .before .before in
+    let a = entry t at .args in
+    let lt = part t at in
+    let less = sub-high (a .m) (a .n) (at .cut .result) (a .known) (old t at) lt (at .cut .ensures .0) (c .if3 .left) in
     (omega arith, (omega arith, omega arith, omega arith, omega arith))
 
 consistency-roots-node-requires-2 : (t : ℕ) → consistency-roots-lts.Need-node-requires-2 (calls t) (consistency-roots-at t) consistency-roots.Post
@@ -96,10 +114,10 @@ consistency-roots-node-requires-3 t c κs = omega arith
 
 consistency-roots-returns-4 : (t : ℕ) → consistency-roots-lts.Need-returns-4 (calls t) (consistency-roots-at t) consistency-roots.Post
 consistency-roots-returns-4 t c =
-    let a = c .before .before .before .before .before .before .before .before .before .before .args in
-    let some = sub-some (a .m) (a .n) (c .before .before .before .before .before .before .before .cut .result) (a .known) (omega arith) (omega arith) (c .before .before .before .before .before .before .before .cut .ensures .0) in
-    both-high sha256 (a .m) (a .n) (c .before .before .before .before .before .before .before .cut .result) (a .first .bytes) (a .count) (now (a .path)) (a .known) (omega arith) (omega arith) (omega arith) (c .before .before .before .before .before .before .before .cut .ensures .0)
-    (c .before .before .before .before .before .if3 .left) (c .before .before .before .before .consistency-roots2 .ensures) (c .before .before .before .before .before .before .node-at2 .ensures) (c .before .node2 .ensures) (c .node3 .ensures)
+    let at = c .before .before .before .before .before .before .before in
+    let a = entry t at .args in
+    both-high sha256 (a .m) (a .n) (at .cut .result) (a .first .bytes) (a .count) (now (a .path)) (a .known) (old t at) (some t at) (part t at) (at .cut .ensures .0)
+    (c .before .before .before .before .before .if3 .left) (c .before .before .before .before .consistency-roots2 .ensures) (c .before .before .before .before .before .before .node-at2 .ensures ∙ hash-in (a .count - 1) (now (a .path)) (omega (arith, some t at))) (c .before .node2 .ensures) (c .node3 .ensures)
 
 pub +consistency-roots-spec : {M : Type 1} → statement M
 +consistency-roots-spec = close μ-consistency-roots λ t. consistency-roots-lts.spec (calls t)

@@ -1,10 +1,12 @@
 -- The proof of the cycle of calls {inclusion_root}: one law of a level for each return. The measure is the size. Assumes nothing.
+use mathlib.Core.Path.{_∙_}
 use native.Mathlib.Omega.{arith}
 use denote.Ref.{now}
 use Rattle.hash.specs.Digest.{sha256}
+use Rattle.tree.proofs.Joining.{hash-in}
 use Rattle.tree.proofs.Counting.{count-some, count-low, count-high}
-use Rattle.tree.proofs.Yielding.{included-one, included-low, included-high}
-use Prim.Native.Nat.{ℕ, _<_}
+use Rattle.tree.proofs.Yielding.{included-few, included-low, included-high}
+use Prim.Native.Nat.{ℕ, _-_, _<_}
 use borrow.Fn.Kinds.{In}
 use borrow.Fn.PlainCycle.{Measures, is, falls, and}
 use Rattle.tree.proofs.yields.inclusion_root.Reads as inclusion-root
@@ -28,64 +30,65 @@ inclusion-root-below t = and 1 inclusion-root-kinds.ps (falls 1 inclusion-root-k
 abbrev calls : ℕ → inclusion-root-lts.Claims
 calls t = (cut-reads.Asked, cut-reads.Learnt, node-at-reads.Asked, node-at-reads.Learnt, inclusion-root-below t, inclusion-root.Post, node-reads.Asked, node-reads.Learnt)
 
+-- what is known where the size is split: there are two parts, and the path has a node
+module _ (t : ℕ) (c : inclusion-root-lts.After-cut (calls t) (inclusion-root-at t) inclusion-root.Post) where
+  abbrev entry : inclusion-root-lts.Start (calls t) (inclusion-root-at t) inclusion-root.Post
+  entry = c .before .before .before
+
+  more : 1 < entry .args .size
+  more = c .before .if1 .left
+
+  some : 0 < entry .args .count
+  some = let i = count-some (entry .args .place) (entry .args .size) (c .cut .result) more (c .cut .ensures .0) in omega (arith, i, entry .pre .1 .0)
+
 inclusion-root-returns : (t : ℕ) → inclusion-root-lts.Need-returns (calls t) (inclusion-root-at t) inclusion-root.Post
 inclusion-root-returns t c =
     let a = c .before .before .args in
-    included-one sha256 (a .place) (a .size) 0 (a .leaf .bytes) (a .count) (now (a .path)) (omega arith)
+    included-few sha256 (a .place) (a .size) 0 (a .leaf .bytes) (a .count) (now (a .path)) (omega arith)
 
 inclusion-root-cut-requires : (t : ℕ) → inclusion-root-lts.Need-cut-requires (calls t) (inclusion-root-at t) inclusion-root.Post
 inclusion-root-cut-requires t c κs = omega arith
 
 inclusion-root-sub-c : (t : ℕ) → inclusion-root-lts.Need-sub-c (calls t) (inclusion-root-at t) inclusion-root.Post
-inclusion-root-sub-c t c =
-    let a = c .before .before .before .args in
-    let more : 1 < a .size = omega arith in
-    let some = count-some (a .place) (a .size) (c .cut .result) more (c .cut .ensures .0) in
-    omega arith
+inclusion-root-sub-c t c = let j = some t c in omega arith
 
 inclusion-root-node-at-requires : (t : ℕ) → inclusion-root-lts.Need-node-at-requires (calls t) (inclusion-root-at t) inclusion-root.Post
-inclusion-root-node-at-requires t c κs =
-    let a = c .before .before .before .args in
-    let more : 1 < a .size = omega arith in
-    let some = count-some (a .place) (a .size) (c .cut .result) more (c .cut .ensures .0) in
-    omega arith
+inclusion-root-node-at-requires t c κs = omega arith
 
 inclusion-root-inclusion-root-requires : (t : ℕ) → inclusion-root-lts.Need-inclusion-root-requires (calls t) (inclusion-root-at t) inclusion-root.Post
 inclusion-root-inclusion-root-requires t c κs =
-    let a = c .before .before .before .before .before .args in
-    let more : 1 < a .size = omega arith in
-    let less = count-low (a .place) (a .size) (c .before .before .cut .result) more (c .before .before .cut .ensures .0) (c .if2 .taken) in
-    (omega arith, (omega arith, omega arith, omega arith))
+    let at = c .before .before in
+    let a = entry t at .args in
+    let less = count-low (a .place) (a .size) (at .cut .result) (more t at) (at .cut .ensures .0) (c .if2 .taken) in
+    (omega arith, (omega arith, omega arith))
 
 inclusion-root-node-requires : (t : ℕ) → inclusion-root-lts.Need-node-requires (calls t) (inclusion-root-at t) inclusion-root.Post
 inclusion-root-node-requires t c κs = omega arith
 
 inclusion-root-returns-2 : (t : ℕ) → inclusion-root-lts.Need-returns-2 (calls t) (inclusion-root-at t) inclusion-root.Post
 inclusion-root-returns-2 t c =
-    let a = c .before .before .before .before .before .before .before .args in
-    let more : 1 < a .size = omega arith in
-    let some = count-some (a .place) (a .size) (c .before .before .before .before .cut .result) more (c .before .before .before .before .cut .ensures .0) in
-    included-low sha256 (a .place) (a .size) (c .before .before .before .before .cut .result) (a .leaf .bytes) (a .count) (now (a .path)) (omega arith) more (c .before .before .before .before .cut .ensures .0) (c .node .ensures) (c .before .before .if2 .taken) (c .before .inclusion-root .ensures) (c .before .before .before .node-at .ensures)
+    let at = c .before .before .before .before in
+    let a = entry t at .args in
+    included-low sha256 (a .place) (a .size) (at .cut .result) (a .leaf .bytes) (a .count) (now (a .path)) (some t at) (more t at) (at .cut .ensures .0) (c .node .ensures) (c .before .before .if2 .taken) (c .before .inclusion-root .ensures) (c .before .before .before .node-at .ensures ∙ hash-in (a .count - 1) (now (a .path)) (omega (arith, some t at)))
 
 inclusion-root-sub-inclusion-root : (t : ℕ) → inclusion-root-lts.Need-sub-inclusion-root (calls t) (inclusion-root-at t) inclusion-root.Post
 inclusion-root-sub-inclusion-root t c = omega arith
 
 inclusion-root-inclusion-root-requires-2 : (t : ℕ) → inclusion-root-lts.Need-inclusion-root-requires-2 (calls t) (inclusion-root-at t) inclusion-root.Post
 inclusion-root-inclusion-root-requires-2 t c κs =
-    let a = c .before .before .before .before .before .args in
-    let more : 1 < a .size = omega arith in
-    let less = count-high (a .place) (a .size) (c .before .before .cut .result) more (c .before .before .cut .ensures .0) (c .if2 .left) in
-    (omega arith, (omega arith, omega arith, omega arith))
+    let at = c .before .before in
+    let a = entry t at .args in
+    let less = count-high (a .place) (a .size) (at .cut .result) (more t at) (at .cut .ensures .0) (c .if2 .left) in
+    (omega arith, (omega arith, omega arith))
 
 inclusion-root-node-requires-2 : (t : ℕ) → inclusion-root-lts.Need-node-requires-2 (calls t) (inclusion-root-at t) inclusion-root.Post
 inclusion-root-node-requires-2 t c κs = omega arith
 
 inclusion-root-returns-3 : (t : ℕ) → inclusion-root-lts.Need-returns-3 (calls t) (inclusion-root-at t) inclusion-root.Post
 inclusion-root-returns-3 t c =
-    let a = c .before .before .before .before .before .before .before .args in
-    let more : 1 < a .size = omega arith in
-    let some = count-some (a .place) (a .size) (c .before .before .before .before .cut .result) more (c .before .before .before .before .cut .ensures .0) in
-    included-high sha256 (a .place) (a .size) (c .before .before .before .before .cut .result) (a .leaf .bytes) (a .count) (now (a .path)) (omega arith) more (c .before .before .before .before .cut .ensures .0) (c .node2 .ensures) (c .before .before .if2 .left) (c .before .before .before .node-at .ensures) (c .before .inclusion-root2 .ensures)
+    let at = c .before .before .before .before in
+    let a = entry t at .args in
+    included-high sha256 (a .place) (a .size) (at .cut .result) (a .leaf .bytes) (a .count) (now (a .path)) (some t at) (more t at) (at .cut .ensures .0) (c .node2 .ensures) (c .before .before .if2 .left) (c .before .before .before .node-at .ensures ∙ hash-in (a .count - 1) (now (a .path)) (omega (arith, some t at))) (c .before .inclusion-root2 .ensures)
 
 pub +inclusion-root-spec : {M : Type 1} → statement M
 +inclusion-root-spec = close μ-inclusion-root λ t. inclusion-root-lts.spec (calls t)

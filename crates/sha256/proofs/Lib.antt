@@ -1,0 +1,4 @@
+-- Laws about the definitions of specs/. Crates above cite Promises alone.
+mod Bitwise
+mod Schedule
+pub mod Promises

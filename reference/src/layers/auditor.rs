@@ -1,0 +1,802 @@
+//! The auditor: head offers and page calls over a record of any value, and
+//! disputes. With SHA-256 no collision can be met; the tests of this module run
+//! the same requests over a weak hash.
+
+use crate::auditor::{self, disputes, join_head, Call, Dispute, Offer, PageCall, Settled, Stored, LONGEST_ID};
+use crate::random::Random;
+use crate::requests::{lines_that_are_no_request, Asked, Entry, Layer, Requests};
+use crate::servers::{spoil, Kind, Log, Server, KINDS};
+use crate::sha256::digest;
+use crate::tree::{HashFunction, MOST_LEAVES};
+use crate::words::{bytes, number, repeated, Word};
+
+pub const LAYER: Layer = Layer {
+    name: "auditor",
+    entries: &[
+        Entry { name: "offer", answer: |words| offer(digest, words), random: random_offer },
+        Entry { name: "page", answer: |words| page(digest, words), random: random_page },
+        Entry { name: "dispute", answer: |words| dispute(digest, words), random: random_dispute },
+    ],
+    lists: Some(random_list),
+    cases,
+    full,
+};
+
+// Answers.
+
+fn read_record(words: &[Word]) -> Option<Stored> {
+    let [held, id, id_length, timestamp, size, root] = words else { return None };
+    Some(Stored {
+        held: match held.as_number()? {
+            0 => false,
+            1 => true,
+            _ => return None,
+        },
+        id: id.as_bytes()?.try_into().ok()?,
+        id_length: id_length.as_number()?,
+        timestamp: timestamp.as_number()?,
+        size: size.as_number()?,
+        root: root.as_hash()?,
+    })
+}
+
+fn record_words(record: &Stored) -> Vec<Word> {
+    vec![
+        number(record.held as u64),
+        bytes(&record.id),
+        number(record.id_length),
+        number(record.timestamp),
+        number(record.size),
+        bytes(&record.root),
+    ]
+}
+
+/// One byte over and over is written shorter.
+fn short(value: &[u8]) -> Word {
+    match value {
+        [first, .., _] if value.iter().all(|byte| byte == first) => repeated(value.len(), *first),
+        _ => bytes(value),
+    }
+}
+
+fn asked(record: &Stored) -> Vec<Word> {
+    let mut words = record_words(record);
+    (words[1], words[5]) = (short(&record.id), short(&record.root));
+    words
+}
+
+fn answered(refusal: u64, after: &Stored) -> Vec<Word> {
+    [vec![number(refusal)], record_words(after)].concat()
+}
+
+fn offer(h: HashFunction, words: &[Word]) -> Option<Vec<Word>> {
+    let [.., log_id, timestamp, size, root, path] = words else { return None };
+    let record = read_record(&words[..words.len() - 5])?;
+    let one = Offer {
+        log_id: log_id.as_bytes()?.to_vec(),
+        timestamp: timestamp.as_number()?,
+        size: size.as_number()?,
+        root: root.as_bytes()?.to_vec(),
+        path: path.as_bytes()?.to_vec(),
+    };
+    let (refusal, after) = record.offer(h, &one);
+    Some(answered(refusal, &after))
+}
+
+fn page(h: HashFunction, words: &[Word]) -> Option<Vec<Word>> {
+    let [.., place, page, path] = words else { return None };
+    let record = read_record(&words[..words.len() - 3])?;
+    let one = PageCall { place: place.as_number()?, page: page.as_bytes()?.to_vec(), path: path.as_bytes()?.to_vec() };
+    Some(answered(record.page(h, &one), &record))
+}
+
+fn dispute(h: HashFunction, words: &[Word]) -> Option<Vec<Word>> {
+    let [page, place, path, size, root, heads, second_page, second_path, pair] = words else { return None };
+    let one = Dispute {
+        first: PageCall { place: place.as_number()?, page: page.as_bytes()?.to_vec(), path: path.as_bytes()?.to_vec() },
+        size: size.as_number()?,
+        root: root.as_bytes()?.to_vec(),
+        heads: heads.as_bytes()?.to_vec(),
+        second_page: second_page.as_bytes()?.to_vec(),
+        second_path: second_path.as_bytes()?.to_vec(),
+    };
+    let mut pair = pair.as_bytes()?.to_vec();
+    let (refusal, outcome) = match auditor::dispute(h, &one, &mut pair) {
+        Settled::Refused(refusal) => (refusal, 0),
+        Settled::Same => (0, 1),
+        Settled::Nodes => (0, 2),
+        Settled::Pages => (0, 3),
+    };
+    Some(vec![number(refusal), number(outcome), bytes(&pair)])
+}
+
+// Requests.
+
+fn ask_offer(record: &Stored, one: &Offer) -> Asked {
+    let mut words = asked(record);
+    words.extend([short(&one.log_id), number(one.timestamp), number(one.size), short(&one.root), short(&one.path)]);
+    ("offer", words)
+}
+
+fn ask_page(record: &Stored, one: &PageCall) -> Asked {
+    let mut words = asked(record);
+    words.extend([number(one.place), short(&one.page), short(&one.path)]);
+    ("page", words)
+}
+
+fn ask_dispute(one: &Dispute, pair: Word) -> Asked {
+    let words = vec![
+        short(&one.first.page),
+        number(one.first.place),
+        short(&one.first.path),
+        number(one.size),
+        short(&one.root),
+        short(&one.heads),
+        short(&one.second_page),
+        short(&one.second_path),
+        pair,
+    ];
+    ("dispute", words)
+}
+
+/// A list of calls, each given the record that the call before returned; then the
+/// dispute of every two accepted pages at one place, some of them damaged.
+fn ask_list(h: HashFunction, calls: &[Call], random: &mut Random) -> Vec<Asked> {
+    let mut record = Stored::EMPTY;
+    let (mut all, mut accepted) = (Vec::new(), Vec::new());
+    for call in calls {
+        let refusal = match call {
+            Call::Offer(one) => {
+                all.push(ask_offer(&record, one));
+                let (refusal, after) = record.offer(h, one);
+                record = after;
+                refusal
+            }
+            Call::Page(one) => {
+                all.push(ask_page(&record, one));
+                record.page(h, one)
+            }
+        };
+        accepted.push(refusal == 0);
+    }
+    for one in disputes(calls, &accepted) {
+        let room = *random.pick(&[130, 130, 131, 150]);
+        all.push(ask_dispute(&one, repeated(room, random.byte())));
+        if random.one_in(2) {
+            all.push(damaged_dispute(one, random));
+        }
+    }
+    all
+}
+
+/// Where each head starts, and the end of the last.
+fn starts(heads: &[u8]) -> Vec<usize> {
+    let mut starts = vec![0];
+    while let Some(count) = heads.get(starts[starts.len() - 1] + 40..).filter(|rest| rest.len() >= 2) {
+        let next = starts[starts.len() - 1] + 42 + 32 * (256 * count[0] as usize + count[1] as usize);
+        if next > heads.len() {
+            break;
+        }
+        starts.push(next);
+    }
+    starts
+}
+
+fn damaged_dispute(mut one: Dispute, random: &mut Random) -> Asked {
+    let starts = starts(&one.heads);
+    // A head that is there, or nothing.
+    let (from, to) = match starts.len() {
+        1 => (0, 0),
+        count => {
+            let which = random.below(count as u64 - 1) as usize;
+            (starts[which], starts[which + 1])
+        }
+    };
+    let mut room = 130;
+    match random.below(18) {
+        0 => one.heads.truncate(random.below(one.heads.len() as u64 + 1) as usize),
+        1 => one.heads.truncate(one.heads.len().saturating_sub(1)),
+        2 => drop(one.heads.drain(from..to)),
+        3 if starts.len() > 2 => {
+            let (a, b) = (starts[0] + 8, starts[1] + 8);
+            for i in 0..32 {
+                one.heads.swap(a + i, b + i);
+            }
+        }
+        4 if from < to => one.root.swap_with_slice(&mut one.heads[from + 8..from + 40]),
+        5 => room = random.below(130) as usize,
+        6 => (room, one.second_path) = (129, one.first.path.clone()),
+        7 => one.first.place = one.first.place.wrapping_add(1),
+        8 => one.first.place = random.draw() >> random.below(64),
+        9 => spoil(&mut one.heads, random),
+        10 if from < to => one.heads[from + random.below(42) as usize] ^= 1 << random.below(8),
+        11 => spoil(&mut one.root, random),
+        12 => spoil(&mut one.first.path, random),
+        13 => spoil(&mut one.second_path, random),
+        14 => spoil(&mut one.first.page, random),
+        15 => spoil(&mut one.second_page, random),
+        16 if from < to => {
+            let again = one.heads[from..to].to_vec();
+            one.heads.splice(to..to, again);
+        }
+        _ => one.size = one.size.wrapping_add(random.below(3)).wrapping_sub(1),
+    }
+    let byte = random.byte();
+    ask_dispute(&one, repeated(room, byte))
+}
+
+// Committed cases.
+
+fn ask_all(requests: &mut Requests, all: Vec<Asked>) {
+    all.iter().for_each(|(name, words)| requests.ask(name, words));
+}
+
+/// The faults of a request in the order of refusals: the number, and what makes it so.
+type Faults<T> = Vec<(u64, fn(&mut T))>;
+
+/// No fault, each alone, and each two at once, with the number that must be given.
+/// The earlier fault is put in last, so that it is there whatever the other did.
+/// Of neighbours with one number only the first stands in pairs, unless all are wanted.
+fn with_faults<T: Clone>(good: &T, faults: &Faults<T>, every_pair: bool) -> Vec<(u64, T)> {
+    let mut all = vec![(0, good.clone())];
+    let paired = |at: &usize| every_pair || *at == 0 || faults[at - 1].0 != faults[*at].0;
+    for (at, (refusal, fault)) in faults.iter().enumerate() {
+        let others = (at + 1..faults.len()).filter(|other| paired(&at) && paired(other));
+        for other in others.map(Some).chain([None]) {
+            let mut one = good.clone();
+            other.into_iter().for_each(|other| faults[other].1(&mut one));
+            fault(&mut one);
+            all.push((*refusal, one));
+        }
+    }
+    all
+}
+
+/// An offer or a page call with the record that it is given.
+#[derive(Clone)]
+struct Given<T> {
+    record: Stored,
+    call: T,
+}
+
+const ID: &[u8] = b"a log";
+
+fn stored(id: &[u8], timestamp: u64, size: u64, root: [u8; 32]) -> Stored {
+    let offer = Offer { log_id: id.to_vec(), timestamp, size, root: root.to_vec(), path: vec![] };
+    let (refusal, record) = Stored::EMPTY.offer(digest, &offer);
+    assert_eq!(refusal, 0);
+    record
+}
+
+/// A log of seven leaves, signed at 3, 6 and 7, with pages at 0 and 2.
+fn seven() -> Log {
+    let mut log = Log::random(digest, 1, &mut Random::new(7));
+    log.sizes = vec![3, 6, 7];
+    log.pages = [(0, b"first page".to_vec()), (2, b"third page".to_vec())].into();
+    log
+}
+
+fn offer_faults() -> Faults<Given<Offer>> {
+    vec![
+        (5, |g| g.call.root.truncate(31)),
+        (5, |g| g.call.root.push(0)),
+        (5, |g| g.call.log_id.truncate(1)),
+        (5, |g| g.call.log_id = vec![7; 128]),
+        (10, |g| g.call.path.push(0)),
+        (11, |g| g.call.log_id = b"a lag".to_vec()),
+        (11, |g| g.call.log_id.push(0)),
+        (6, |g| g.call.size = 0),
+        (6, |g| g.call.size = MOST_LEAVES + 1),
+        (6, |g| g.call.size = g.record.size - 1),
+        (12, |g| g.call.timestamp = g.record.timestamp - 1),
+        (13, |g| {
+            g.call.size = g.record.size;
+            g.call.root = vec![9; 32];
+        }),
+        (7, |g| g.call.path.extend([0; 32])),
+        (7, |g| g.call.path.clear()),
+        (8, |g| {
+            if let Some(byte) = g.call.path.first_mut() {
+                *byte ^= 1;
+            }
+        }),
+        (8, |g| g.call.root[31] ^= 128),
+    ]
+}
+
+fn offer_faults_of_the_empty_record() -> Faults<Given<Offer>> {
+    vec![
+        (5, |g| g.call.root.truncate(31)),
+        (5, |g| g.call.root.push(0)),
+        (5, |g| g.call.log_id.truncate(1)),
+        (5, |g| g.call.log_id = vec![7; 128]),
+        (10, |g| g.call.path = vec![0; 33]),
+        (10, |g| g.call.path = vec![0; 31]),
+        (6, |g| g.call.size = 0),
+        (6, |g| g.call.size = MOST_LEAVES + 1),
+        (7, |g| g.call.path.extend([0; 32])),
+    ]
+}
+
+fn page_faults() -> Faults<Given<PageCall>> {
+    vec![
+        (14, |g| g.record.held = false),
+        (10, |g| g.call.path.push(0)),
+        (6, |g| g.call.place = g.record.size),
+        (6, |g| g.record.size = 0),
+        (6, |g| g.record.size = MOST_LEAVES + 1),
+        (7, |g| g.call.path.extend([0; 32])),
+        (7, |g| g.call.path.truncate(32)),
+        (8, |g| g.call.path[0] ^= 1),
+        (8, |g| g.call.page.push(0)),
+        (8, |g| g.record.root[0] ^= 1),
+    ]
+}
+
+/// A dispute whose heads are not joined yet.
+#[derive(Clone)]
+struct Open {
+    one: Dispute,
+    heads: Vec<(u64, Vec<u8>, Vec<u8>)>,
+    /// This head is cut after so many bytes, and none follows it.
+    cut: Option<(usize, usize)>,
+    pair: usize,
+}
+
+impl Open {
+    fn asked(&self) -> Asked {
+        let mut one = self.one.clone();
+        for (at, (size, root, path)) in self.heads.iter().enumerate() {
+            let start = one.heads.len();
+            join_head(*size, root, path, &mut one.heads);
+            if let Some((_, kept)) = self.cut.filter(|(head, _)| *head == at) {
+                one.heads.truncate(start + kept);
+                break;
+            }
+        }
+        ask_dispute(&one, repeated(self.pair, 0x3c))
+    }
+
+    /// Of a page from one size to the last of these.
+    fn new(log: &Log, place: u64, sizes: &[u64]) -> Open {
+        let (first, last) = (sizes[0], sizes[sizes.len() - 1]);
+        let page = log.pages[&place].clone();
+        Open {
+            one: Dispute {
+                first: PageCall { place, page: page.clone(), path: log.path(place, first) },
+                size: first,
+                root: log.root(first).to_vec(),
+                heads: vec![],
+                second_page: page,
+                second_path: log.path(place, last),
+            },
+            heads: sizes.windows(2).map(|two| (two[1], log.root(two[1]).to_vec(), log.consistency_path(two[0], two[1]))).collect(),
+            cut: None,
+            pair: 130,
+        }
+    }
+}
+
+/// What is met before the heads.
+fn first_proof_faults() -> Faults<Open> {
+    vec![
+        (5, |d| d.one.root.truncate(31)),
+        (10, |d| d.one.first.path.push(0)),
+        (6, |d| d.one.first.place = d.one.size),
+        (6, |d| d.one.size = 0),
+        (6, |d| d.one.size = MOST_LEAVES + 1),
+        (7, |d| d.one.first.path.extend([0; 32])),
+        (8, |d| d.one.first.path[0] ^= 1),
+        (8, |d| d.one.first.page.push(0)),
+        (8, |d| d.one.root[0] ^= 1),
+    ]
+}
+
+fn second_proof_faults() -> Faults<Open> {
+    vec![
+        (10, |d| d.one.second_path.push(0)),
+        (7, |d| d.one.second_path.truncate(32)),
+        (8, |d| d.one.second_path[40] ^= 1),
+        (8, |d| d.one.second_page.push(0)),
+    ]
+}
+
+/// No head between the two pages.
+fn faults_without_heads() -> Faults<Open> {
+    let mut faults = first_proof_faults();
+    faults.extend(second_proof_faults());
+    faults.push((9, |d| d.pair = 129));
+    faults
+}
+
+/// Two heads between.
+fn faults_with_heads() -> Faults<Open> {
+    let mut faults = first_proof_faults();
+    let more: Faults<Open> = vec![
+        (2, |d| d.cut = Some((0, 41))),
+        (2, |d| d.cut = Some((0, 42 + 31))),
+        (2, |d| d.cut = Some((0, 1))),
+        (6, |d| d.heads[0].0 = d.one.size - 1),
+        (6, |d| d.heads[0].0 = MOST_LEAVES + 1),
+        (7, |d| d.heads[0].2.truncate(32)),
+        (7, |d| d.heads[0].2.extend([0; 32])),
+        (8, |d| d.heads[0].1[0] ^= 1),
+        (8, |d| d.heads[0].2[5] ^= 1),
+        (9, |d| d.pair = 129),
+        (2, |d| d.cut = Some((1, 41))),
+        (2, |d| d.cut = Some((1, 1))),
+        (6, |d| d.heads[1].0 = d.heads[0].0 - 1),
+        (7, |d| d.heads[1].2.clear()),
+        (8, |d| d.heads[1].1[31] ^= 1),
+        // A third head, cut in its one node.
+        (2, |d| {
+            d.heads.push((7, d.heads[1].1.clone(), vec![0; 32]));
+            d.cut = Some((2, 42 + 31));
+        }),
+    ];
+    faults.extend(more);
+    faults.extend(second_proof_faults());
+    faults
+}
+
+/// Every request of the papers' rules, with the number that must be given.
+fn rules(every_pair: bool) -> Vec<(u64, Asked)> {
+    let log = seven();
+    let mut all = Vec::new();
+    let offer = |timestamp: u64, size: u64, path: Vec<u8>| Offer { log_id: ID.to_vec(), timestamp, size, root: log.root(size).to_vec(), path };
+    let offers = |all: &mut Vec<(u64, Asked)>, record: &Stored, call: Offer, faults: Faults<Given<Offer>>| {
+        let good = Given { record: record.clone(), call };
+        all.extend(with_faults(&good, &faults, every_pair).iter().map(|(refusal, one)| (*refusal, ask_offer(&one.record, &one.call))));
+    };
+    // A record that is empty may hold anything besides.
+    let empty = Stored { id: [3; LONGEST_ID], id_length: 5, timestamp: 100, size: 9, root: [8; 32], ..Stored::EMPTY };
+    offers(&mut all, &Stored::EMPTY, offer(50, 3, vec![]), offer_faults_of_the_empty_record());
+    offers(&mut all, &empty, offer(50, 3, vec![]), offer_faults_of_the_empty_record());
+    let three = stored(ID, 50, 3, log.root(3));
+    offers(&mut all, &three, offer(50, 7, log.consistency_path(3, 7)), offer_faults());
+
+    // Limits, on both kinds of record: log ids, sizes and timestamps.
+    for (length, refusal) in [(2, 0), (127, 0), (126, 0), (1, 5), (0, 5), (128, 5), (300, 5)] {
+        let mut one = offer(0, 1, vec![]);
+        one.log_id = (0..length).map(|i: u32| i as u8 | 1).collect();
+        all.push((refusal, ask_offer(&Stored::EMPTY, &one)));
+        if refusal == 0 {
+            let record = stored(&one.log_id, 0, 1, log.root(1));
+            all.push((0, ask_offer(&record, &one)));
+            // The same id with its last byte changed, without it, and with one more.
+            let (last, rest) = one.log_id.split_last().unwrap();
+            for log_id in [[rest, &[last ^ 1]].concat(), rest.to_vec(), [&one.log_id[..], &[1]].concat()] {
+                let other = Offer { log_id, ..one.clone() };
+                let refusal = if (2..=127).contains(&other.log_id.len()) { 11 } else { 5 };
+                all.push((refusal, ask_offer(&record, &other)));
+            }
+        } else {
+            all.push((refusal, ask_offer(&three, &one)));
+        }
+    }
+    let hash = [6; 32];
+    let any = |size: u64, path: Vec<u8>| Offer { log_id: ID.to_vec(), timestamp: 50, size, root: hash.to_vec(), path };
+    for (size, refusal) in [(0, 6), (1, 0), (2, 0), (MOST_LEAVES - 1, 0), (MOST_LEAVES, 0), (MOST_LEAVES + 1, 6), (1 << 63, 6), (u64::MAX, 6)] {
+        all.push((refusal, ask_offer(&Stored::EMPTY, &any(size, vec![]))));
+        if refusal == 0 {
+            // The same head again, with a later and an earlier timestamp, with a node, and with another root.
+            let record = stored(ID, 50, size, hash);
+            all.push((0, ask_offer(&record, &any(size, vec![]))));
+            all.push((0, ask_offer(&record, &Offer { timestamp: u64::MAX, ..any(size, vec![]) })));
+            all.push((12, ask_offer(&record, &Offer { timestamp: 49, ..any(size, vec![]) })));
+            all.push((7, ask_offer(&record, &any(size, vec![0; 32]))));
+            all.push((13, ask_offer(&record, &Offer { root: vec![7; 32], ..any(size, vec![]) })));
+            all.push((if size == MOST_LEAVES { 6 } else { 7 }, ask_offer(&record, &any(size + 1, vec![]))));
+            all.push((6, ask_offer(&record, &any(size - 1, vec![]))));
+        }
+    }
+
+    // Records that no list of calls returns.
+    for (id_length, whole) in [(0, false), (1, false), (127, true), (128, true), (1 << 63, true), (u64::MAX, true)] {
+        let record = Stored { held: true, id: [7; LONGEST_ID], id_length, ..stored(ID, 50, 3, log.root(3)) };
+        let one = Offer { log_id: vec![7; LONGEST_ID], ..offer(50, 6, log.consistency_path(3, 6)) };
+        all.push((if whole { 0 } else { 11 }, ask_offer(&record, &one)));
+        all.push((11, ask_offer(&record, &Offer { log_id: vec![7; 126], ..one.clone() })));
+        let page = PageCall { place: 2, page: log.pages[&2].clone(), path: log.path(2, 3) };
+        all.push((0, ask_page(&record, &page)));
+    }
+    // Bytes after the log id are not looked at, and are zeros once a head is accepted.
+    let mut garbage = three.clone();
+    garbage.id[ID.len()..].fill(0xee);
+    all.push((0, ask_offer(&garbage, &offer(50, 6, log.consistency_path(3, 6)))));
+    all.push((12, ask_offer(&garbage, &offer(49, 6, log.consistency_path(3, 6)))));
+    all.push((11, ask_offer(&garbage, &Offer { log_id: garbage.id[..ID.len() + 1].to_vec(), ..offer(50, 6, vec![]) })));
+    for size in [0, MOST_LEAVES + 1, 1 << 63, u64::MAX] {
+        let record = Stored { size, ..three.clone() };
+        for offered in [0, 1, 3, MOST_LEAVES, MOST_LEAVES + 1, size] {
+            for path in [vec![], vec![0; 32]] {
+                all.push((6, ask_offer(&record, &any(offered, path))));
+            }
+        }
+        let earlier = Offer { timestamp: 49, ..any(3, vec![]) };
+        all.push((if size == 0 { 12 } else { 6 }, ask_offer(&record, &earlier)));
+        for place in [0, size, u64::MAX] {
+            all.push((6, ask_page(&record, &PageCall { place, page: vec![], path: vec![] })));
+        }
+    }
+
+    // Pages.
+    let call = PageCall { place: 0, page: log.pages[&0].clone(), path: log.path(0, 7) };
+    let good = Given { record: stored(ID, 50, 7, log.root(7)), call };
+    all.extend(with_faults(&good, &page_faults(), every_pair).iter().map(|(refusal, one)| (*refusal, ask_page(&one.record, &one.call))));
+    all.push((14, ask_page(&Stored::EMPTY, &good.call)));
+    all.push((14, ask_page(&empty, &PageCall { path: vec![1], ..good.call.clone() })));
+    for (size, place) in [(1, 0), (2, 1), (3, 2), (MOST_LEAVES, 0), (MOST_LEAVES, MOST_LEAVES - 1), (MOST_LEAVES - 1, MOST_LEAVES - 2)] {
+        let mut log = seven();
+        (log.sizes, log.pages) = (vec![size], [(place, vec![])].into());
+        let record = stored(ID, 50, size, log.root(size));
+        let call = PageCall { place, page: vec![], path: log.path(place, size) };
+        all.push((0, ask_page(&record, &call)));
+        all.push((8, ask_page(&record, &PageCall { page: vec![0], ..call.clone() })));
+        all.push((6, ask_page(&record, &PageCall { place: size, ..call.clone() })));
+        all.push((7, ask_page(&record, &PageCall { path: [&call.path[..], &[0; 32]].concat(), ..call })));
+    }
+
+    // Disputes.
+    for (good, faults) in [
+        (Open::new(&log, 0, &[7]), faults_without_heads()),
+        (Open::new(&log, 0, &[3, 6, 7]), faults_with_heads()),
+    ] {
+        all.extend(with_faults(&good, &faults, every_pair).iter().map(|(refusal, one)| (*refusal, one.asked())));
+    }
+    for place in [0, 2] {
+        for sizes in [&[3][..], &[7], &[3, 3], &[3, 6], &[6, 7], &[3, 3, 6, 6, 7, 7], &[3, 7, 7]] {
+            let good = Open::new(&log, place, sizes);
+            for pair in [130, 131, 500] {
+                all.push((0, Open { pair, ..good.clone() }.asked()));
+            }
+            for pair in [129, 0] {
+                all.push((9, Open { pair, ..good.clone() }.asked()));
+            }
+        }
+    }
+    // A count of 65,535 nodes is cut short, also with no room for a pair; the first proof is judged before.
+    let mut cut = Open::new(&log, 0, &[3]);
+    cut.one.heads = [&7u64.to_be_bytes()[..], &log.root(7), &[255, 255], &log.consistency_path(3, 7)].concat();
+    all.push((2, cut.asked()));
+    cut.pair = 0;
+    all.push((2, cut.asked()));
+    cut.one.root.clear();
+    all.push((5, cut.asked()));
+    all
+}
+
+/// The largest sizes: one dispute over heads up to the limit.
+fn large() -> Vec<Asked> {
+    let mut log = seven();
+    (log.sizes, log.pages) =
+        (vec![MOST_LEAVES / 2 + 1, MOST_LEAVES - 1, MOST_LEAVES], [(0, b"page".to_vec()), (MOST_LEAVES / 2, vec![])].into());
+    let sizes = log.sizes.clone();
+    let mut all: Vec<Asked> = [0, MOST_LEAVES / 2].map(|place| Open::new(&log, place, &sizes).asked()).into();
+    let mut past = Open::new(&log, 0, &sizes);
+    past.heads.push((MOST_LEAVES + 1, vec![1; 32], vec![0; 32]));
+    all.push(past.asked());
+    all
+}
+
+fn cases(requests: &mut Requests) {
+    for (_, (name, words)) in rules(false) {
+        requests.ask(name, &words);
+    }
+    ask_all(requests, large());
+    let random = &mut Random::new(14);
+    for kind in KINDS {
+        for _ in 0..3 {
+            let calls = Server::random(digest, kind, 12, random).calls(12, 0, random);
+            ask_all(requests, ask_list(digest, &calls, random));
+        }
+    }
+    lines_that_are_no_request(requests, "dispute");
+    for line in [
+        "offer",
+        "offer 0 127*00 0 0 0 32*00 x0102 0 1 32*01",
+        "offer 0 127*00 0 0 0 32*00 x0102 0 1 32*01 x x",
+        "offer 2 127*00 0 0 0 32*00 x0102 0 1 32*01 x",
+        "offer x 127*00 0 0 0 32*00 x0102 0 1 32*01 x",
+        "offer 0 126*00 0 0 0 32*00 x0102 0 1 32*01 x",
+        "offer 0 128*00 0 0 0 32*00 x0102 0 1 32*01 x",
+        "offer 0 127*00 0 0 0 31*00 x0102 0 1 32*01 x",
+        "offer 0 127*00 0 0 0 33*00 x0102 0 1 32*01 x",
+        "offer 0 127*00 x 0 0 32*00 x0102 0 1 32*01 x",
+        "offer 0 127*00 18446744073709551616 0 0 32*00 x0102 0 1 32*01 x",
+        "page 0 127*00 0 0 0 32*00 0 x",
+        "page 0 127*00 0 0 0 32*00 0 x x x",
+        "page 2 127*00 0 0 0 32*00 0 x x",
+        "page 0 127*00 0 0 0 32*00 x x x",
+        "dispute x 0 x 1 32*01 x x x",
+        "dispute x 0 x 1 32*01 x x x 130",
+        "dispute x 0 x 1 32*01 x x x 130*00 x",
+        "dispute x x x 1 32*01 x x x 130*00",
+    ] {
+        requests.line(line.as_bytes());
+    }
+}
+
+/// Lists against every kind of server, small logs and large ones; then the
+/// longest pages that a request holds.
+fn full(requests: &mut Requests) {
+    for (_, (name, words)) in rules(true) {
+        requests.ask(name, &words);
+    }
+    let random = &mut Random::new(127);
+    for turn in 0..150 {
+        for kind in KINDS {
+            let most = if turn % 3 == 0 { 1 << random.below(33) } else { random.between(1, 40) };
+            let calls = Server::random(digest, kind, most, random).calls(30, 0, random);
+            ask_all(requests, ask_list(digest, &calls, random));
+        }
+    }
+    for length in [65_536, 500_000, 1_000_000] {
+        let page = vec![0x61; length];
+        let leaf = crate::sha256::leaf(&page);
+        let record = stored(ID, 1, 1, leaf);
+        let mut words = asked(&record);
+        words.extend([number(0), repeated(length, 0x61), bytes(&[])]);
+        requests.ask("page", &words);
+        for (second, byte) in [(length, 0x61), (length, 0x62), (length - 1, 0x61)] {
+            let mut words = vec![repeated(length, 0x61), number(0), bytes(&[]), number(1), bytes(&leaf), bytes(&[])];
+            words.extend([repeated(second, byte), bytes(&[]), repeated(130, 0)]);
+            requests.ask("dispute", &words);
+        }
+    }
+}
+
+// Random requests.
+
+fn random_calls(random: &mut Random) -> Vec<Call> {
+    let most = match random.below(4) {
+        0 => 1 << random.below(33),
+        _ => random.between(1, 40),
+    };
+    let kind = *random.pick(&[Kind::Honest, Kind::Forgetful, Kind::Forging, Kind::Forging]);
+    let count = random.between(3, 16) as usize;
+    Server::random(digest, kind, most, random).calls(count, 0, random)
+}
+
+fn random_list(random: &mut Random) -> Vec<Asked> {
+    let calls = random_calls(random);
+    ask_list(digest, &calls, random)
+}
+
+/// One request of a list, by its entry.
+fn random_of(entry: &str, random: &mut Random) -> Vec<Word> {
+    loop {
+        let all = random_list(random);
+        let mut all: Vec<Vec<Word>> = all.into_iter().filter(|(name, _)| *name == entry).map(|(_, words)| words).collect();
+        if let Some(last) = all.len().checked_sub(1) {
+            return all.swap_remove(random.between(last as u64 / 2, last as u64) as usize);
+        }
+    }
+}
+
+/// The record of a request, with none, one or two fields of any value.
+fn random_record(words: &mut [Word], random: &mut Random) {
+    for _ in 0..random.below(3) {
+        let any = random.draw() >> random.below(64);
+        match random.below(8) {
+            0 => words[0] = number(random.below(2)),
+            1 => words[1] = bytes(&random.bytes(LONGEST_ID)),
+            2 => words[2] = number(*random.pick(&[0, 1, 2, 3, 126, 127, 128, 1 << 63, u64::MAX])),
+            3 => words[2] = number(any),
+            4 => words[3] = number(any),
+            5 => words[4] = number(*random.pick(&[0, 1, 2, MOST_LEAVES, MOST_LEAVES + 1, u64::MAX])),
+            6 => words[4] = number(any),
+            _ => words[5] = bytes(&random.hash()),
+        }
+    }
+}
+
+fn random_offer(random: &mut Random) -> Vec<Word> {
+    let mut words = random_of("offer", random);
+    random_record(&mut words, random);
+    words
+}
+
+fn random_page(random: &mut Random) -> Vec<Word> {
+    let mut words = random_of("page", random);
+    random_record(&mut words, random);
+    words
+}
+
+fn random_dispute(random: &mut Random) -> Vec<Word> {
+    random_of("dispute", random)
+}
+
+#[cfg(test)]
+mod tests {
+    use super::*;
+    use crate::carry::weak;
+    use crate::words::{read_line, write_line};
+    use std::collections::BTreeMap;
+
+    /// The words of a request as they are read.
+    fn read((name, words): &Asked) -> Vec<Word> {
+        let mut line = Vec::new();
+        write_line(Some(name), words, &mut line);
+        line.pop();
+        read_line(&line).unwrap().1
+    }
+
+    fn answer(h: HashFunction, asked: &Asked) -> Vec<Word> {
+        let words = read(asked);
+        match asked.0 {
+            "offer" => offer(h, &words),
+            "page" => page(h, &words),
+            _ => dispute(h, &words),
+        }
+        .expect("a request")
+    }
+
+    #[test]
+    fn rules_give_their_numbers() {
+        for (at, (refusal, asked)) in rules(true).iter().enumerate() {
+            let answer = answer(digest, asked);
+            assert_eq!(answer[0], number(*refusal), "{at}: {asked:?}");
+            let words = read(asked);
+            match asked.0 {
+                "offer" if *refusal == 0 => {
+                    let id = words[6].as_bytes().unwrap();
+                    let padded: Vec<u8> = id.iter().copied().chain([0; LONGEST_ID]).take(LONGEST_ID).collect();
+                    let after = [number(1), bytes(&padded), number(id.len() as u64), words[7].clone(), words[8].clone(), words[9].clone()];
+                    assert_eq!(answer[1..], after);
+                }
+                "dispute" => {
+                    assert_eq!(answer[1], number((*refusal == 0) as u64));
+                    assert_eq!(answer[2], words[8]);
+                }
+                // A refusal, and every page call: the record as it was.
+                _ => assert_eq!(answer[1..], words[..6]),
+            }
+        }
+    }
+
+    type Counts = BTreeMap<(&'static str, u64, u64), usize>;
+
+    fn count(h: HashFunction, all: &[Asked], counts: &mut Counts) {
+        for asked in all {
+            let answer = answer(h, asked);
+            let outcome = if asked.0 == "dispute" { answer[1].as_number().unwrap() } else { 0 };
+            *counts.entry((asked.0, answer[0].as_number().unwrap(), outcome)).or_default() += 1;
+        }
+    }
+
+    fn lists(h: HashFunction, turns: usize, tries: usize, counts: &mut Counts) {
+        let random = &mut Random::new(12);
+        for _ in 0..turns {
+            for kind in KINDS {
+                let most = random.between(1, 40);
+                let calls = Server::random(h, kind, most, random).calls(30, tries, random);
+                count(h, &ask_list(h, &calls, random), counts);
+            }
+        }
+    }
+
+    /// Every number and every outcome that can be met is met; 1 is met in the
+    /// tests of `auditor`, for its page is longer than a line holds.
+    #[test]
+    fn every_outcome_is_met() {
+        let mut counts = Counts::new();
+        lists(digest, 100, 0, &mut counts);
+        println!("SHA-256: {counts:?}");
+        let offers = [0, 5, 6, 7, 8, 10, 11, 12, 13].map(|refusal| ("offer", refusal, 0));
+        let pages = [0, 6, 7, 8, 10, 14].map(|refusal| ("page", refusal, 0));
+        let refused = [2, 5, 6, 7, 8, 9, 10].map(|refusal| ("dispute", refusal, 0));
+        let mut expected: Vec<_> = offers.into_iter().chain(pages).chain(refused).chain([("dispute", 0, 1)]).collect();
+        expected.sort();
+        assert_eq!(counts.keys().copied().collect::<Vec<_>>(), expected);
+        assert!(counts.values().all(|count| *count >= 10), "{counts:?}");
+
+        counts.clear();
+        lists(weak, 100, 60, &mut counts);
+        println!("weak: {counts:?}");
+        expected.extend([("dispute", 0, 2), ("dispute", 0, 3)]);
+        expected.sort();
+        assert_eq!(counts.keys().copied().collect::<Vec<_>>(), expected);
+        assert!(counts.values().all(|count| *count >= 10), "{counts:?}");
+    }
+}
