@@ -1,0 +1,167 @@
+// The auditor's steps. Each prints what is handed over and what the auditor answers.
+use crate::bytes::Made;
+use crate::bytes::blank;
+use crate::bytes::first;
+use crate::bytes::slice;
+use crate::log::Head;
+use crate::log::leaf;
+use crate::say;
+use crate::say::words;
+use auditor::Answered;
+use auditor::Record;
+use auditor::dispute::Settled;
+use auditor::dispute::dispute;
+
+// The auditor's record, and whether every answer so far was expected.
+pub struct Audit {
+    pub record: Record,
+    pub good: bool,
+}
+
+pub(crate) fn start() -> Audit {
+    Audit {
+        record: auditor::empty(),
+        good: true,
+    }
+}
+
+// The audit after a step: the record, whether the answer was expected, and the number of what was handed over.
+fn after(a: Audit, record: Record, told: bool, number: u32) -> Audit {
+    let made = say::made(number);
+    Audit {
+        record,
+        good: a.good & told & made,
+    }
+}
+
+fn tell_head(what: &[u8], head: Head) {
+    words(what);
+    words(b" of ");
+    say::number(head.size);
+    words(b" pages, time ");
+    say::number(head.timestamp);
+    words(b", root ");
+    let root = head.root;
+    say::short(&root);
+}
+
+fn offered(r: Record, id: &[u8], head: Head, path: Made) -> Answered {
+    let root = head.root;
+    let nodes = path.bytes;
+    auditor::head::offer(
+        r,
+        id,
+        head.timestamp,
+        head.size,
+        &root,
+        slice(&nodes, path.len),
+    )
+}
+
+// Offers a head of the log `id` with the path from the head held.
+pub(crate) fn offer(
+    a: Audit,
+    what: &[u8],
+    id: &[u8],
+    head: Head,
+    path: Made,
+    expected: u32,
+) -> Audit {
+    tell_head(what, head);
+    let answered = offered(a.record, id, head, path);
+    let told = say::answer(answered.number, expected);
+    after(a, answered.after, told, first(head.number, path.number))
+}
+
+fn tell_page(what: &[u8], place: u64, size: u64, page: Made) {
+    words(what);
+    words(b" at place ");
+    say::number(place);
+    words(b" under the head of ");
+    say::number(size);
+    words(b", leaf hash ");
+    let hashed = leaf(page);
+    let digest = hashed.digest.bytes;
+    say::short(&digest);
+}
+
+fn asked(r: Record, place: u64, page: Made, path: Made) -> Answered {
+    let bytes = page.bytes;
+    let nodes = path.bytes;
+    auditor::page::ask(r, place, slice(&bytes, page.len), slice(&nodes, path.len))
+}
+
+// Asks for a page at a place, with its path under the head held.
+pub(crate) fn ask(
+    a: Audit,
+    what: &[u8],
+    place: u64,
+    page: Made,
+    path: Made,
+    expected: u32,
+) -> Audit {
+    tell_page(what, place, a.record.size, page);
+    let answered = asked(a.record, place, page, path);
+    let told = say::answer(answered.number, expected);
+    after(a, answered.after, told, first(page.number, path.number))
+}
+
+// What a dispute answers, and whether it says that the pages are the same.
+fn settled(answer: Settled) -> bool {
+    match answer {
+        Settled::Same => {
+            words(b"same\n");
+            return true;
+        }
+        Settled::Nodes => words(b"two strings of nodes with one hash"),
+        Settled::Pages => words(b"two pages with one leaf hash"),
+        Settled::Refused(n) => say::verdict(n),
+    }
+    words(b"\n  UNEXPECTED: the answer should be: same\n");
+    false
+}
+
+// The dispute over one page that was accepted twice: with `path` under the head of `size` pages and `root`, and with `later` under the next head, which
+// `heads` has.
+fn disputed(
+    place: u64,
+    page: Made,
+    size: u64,
+    root: [u8; 32],
+    path: Made,
+    heads: Made,
+    later: Made,
+) -> Settled {
+    let bytes = page.bytes;
+    let nodes = path.bytes;
+    let between = heads.bytes;
+    let more = later.bytes;
+    let mut pair = blank();
+    dispute(
+        slice(&bytes, page.len),
+        place,
+        slice(&nodes, path.len),
+        size,
+        &root,
+        slice(&between, heads.len),
+        slice(&bytes, page.len),
+        slice(&more, later.len),
+        &mut pair,
+    )
+}
+
+// Settles whether the page accepted under a head is the one accepted under the next.
+pub(crate) fn compare(
+    a: Audit,
+    place: u64,
+    page: Made,
+    head: Head,
+    path: Made,
+    heads: Made,
+    later: Made,
+) -> Audit {
+    words(b"  Dispute over the page accepted under each head: ");
+    let root = head.root;
+    let same = settled(disputed(place, page, head.size, root, path, heads, later));
+    after(a, a.record, same, heads.number)
+}
