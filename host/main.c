@@ -1,11 +1,11 @@
-/* A host program: document 01's cases through the static library, one line a case that fails.
+/* A host program: document 01's cases through the static library, one line a check that fails.
  * The last line is 'N passed, M failed'. */
 #include "mta.h"
 
 #include <stdio.h>
 #include <string.h>
 
-enum { HASH = 32, MOST = 8 };
+enum { HASH = 32, MOST = 8, PAIR = 130, BEFORE = 0xa5 };
 
 typedef struct {
     uint8_t bytes[HASH];
@@ -15,6 +15,15 @@ typedef struct {
     uint8_t bytes[HASH * MOST];
     size_t length;
 } Path;
+
+typedef struct {
+    Hash leaf;
+    uint64_t place, size;
+    Hash root;
+    Path path;
+} Proof;
+
+static const Path none;
 
 static int passed, failed;
 
@@ -62,10 +71,54 @@ static uint32_t consistent(uint64_t first, uint64_t second, Hash root1, Hash roo
     return mta_consistency(first, second, root1.bytes, HASH, root2.bytes, HASH, p.bytes, p.length);
 }
 
+/* Whether a buffer starts with these bytes and is BEFORE after them. */
+static bool holds(const uint8_t *buffer, size_t length, Path start)
+{
+    if (start.length > length || memcmp(buffer, start.bytes, start.length) != 0)
+        return false;
+    for (size_t i = start.length; i < length; i++)
+        if (buffer[i] != BEFORE)
+            return false;
+    return true;
+}
+
+/* Carries a proof by a consistency path. Both results are set and the pair buffer stays; of a refusal
+ * the new path is none, and the path buffer stays too. */
+static void carries(const char *what, Proof p, uint64_t second, Hash root2, Path by, size_t out_length,
+                    size_t pair_length, uint32_t want, Path new_path)
+{
+    uint8_t out[HASH * MOST], pair[PAIR];
+    uint64_t written = UINT64_MAX;
+    bool collided = true;
+    memset(out, BEFORE, sizeof out);
+    memset(pair, BEFORE, sizeof pair);
+    expect(what,
+           mta_carry(p.leaf.bytes, HASH, p.place, p.size, second, p.root.bytes, HASH, root2.bytes, HASH, p.path.bytes,
+                     p.path.length, by.bytes, by.length, out, out_length, pair, pair_length, &written, &collided),
+           want);
+    expect(what, written == new_path.length && !collided, true);
+    expect(what, holds(out, sizeof out, new_path) && holds(pair, sizeof pair, none), true);
+}
+
+/* Compares a proof with another leaf and path. The result is set and the pair buffer stays. */
+static void compares(const char *what, Proof p, Hash leaf2, Path path2, size_t pair_length, uint32_t want)
+{
+    uint8_t pair[PAIR];
+    bool collided = true;
+    memset(pair, BEFORE, sizeof pair);
+    expect(what,
+           mta_compare(p.place, p.size, p.root.bytes, HASH, p.leaf.bytes, HASH, p.path.bytes, p.path.length,
+                       leaf2.bytes, HASH, path2.bytes, path2.length, pair, pair_length, &collided),
+           want);
+    expect(what, !collided && holds(pair, sizeof pair, none), true);
+}
+
 /* A slice of length 0 may be NULL. */
 static void empty_slices(Hash h)
 {
-    uint8_t digest[HASH];
+    uint8_t digest[HASH], pair[PAIR];
+    uint64_t written = 1;
+    bool collided = true;
     static const uint8_t of_nothing[HASH] = {
         0xe3, 0xb0, 0xc4, 0x42, 0x98, 0xfc, 0x1c, 0x14, 0x9a, 0xfb, 0xf4, 0xc8, 0x99, 0x6f, 0xb9, 0x24,
         0x27, 0xae, 0x41, 0xe4, 0x64, 0x9b, 0x93, 0x4c, 0xa4, 0x95, 0x99, 0x1b, 0x78, 0x52, 0xb8, 0x55};
@@ -79,6 +132,16 @@ static void empty_slices(Hash h)
     expect("no roots", mta_consistency(1, 1, NULL, 0, NULL, 0, NULL, 0), MTA_LENGTH);
     expect("no parts", mta_node(NULL, 0, NULL, 0, digest, HASH), MTA_LENGTH);
     expect("no block", mta_step(NULL, 0, NULL, 0, NULL, 0), MTA_LENGTH);
+    expect("1 to 1, no path",
+           mta_carry(h.bytes, HASH, 0, 1, 1, h.bytes, HASH, h.bytes, HASH, NULL, 0, NULL, 0, NULL, 0, pair, PAIR,
+                     &written, &collided),
+           MTA_OK);
+    expect("nothing written", written != 0 || collided, 0);
+    expect("nothing to carry",
+           mta_carry(NULL, 0, 0, 0, 0, NULL, 0, NULL, 0, NULL, 0, NULL, 0, NULL, 0, NULL, 0, &written, &collided),
+           MTA_LENGTH);
+    expect("nothing to compare",
+           mta_compare(0, 0, NULL, 0, NULL, 0, NULL, 0, NULL, 0, NULL, 0, NULL, 0, &collided), MTA_LENGTH);
 }
 
 int main(void)
@@ -86,7 +149,6 @@ int main(void)
     Hash a = leaf('a'), b = leaf('b'), c = leaf('c'), d = leaf('d'), e = leaf('e'), f = leaf('f'), j = leaf('j');
     Hash g = node(a, b), h = node(c, d), i = node(e, f), k = node(g, h), l = node(i, j), root = node(k, l);
     Hash root3 = node(g, c), root6 = node(k, i);
-    Path none = {.length = 0};
     uint64_t largest = UINT64_C(1) << 32;
 
     expect("place 0 of 7", included(a, 0, 7, root, PATH(b, h, l)), MTA_OK);
@@ -117,6 +179,25 @@ int main(void)
     expect("one more than that", consistent(largest + 1, largest + 1, root, root, none), MTA_RANGE);
     expect("the largest number", included(a, UINT64_MAX, UINT64_MAX, root, none), MTA_RANGE);
     expect("half a node", mta_inclusion(a.bytes, HASH, 0, 7, root.bytes, HASH, root.bytes, 31), MTA_JOINED);
+
+    Proof first3 = {a, 0, 3, root3, PATH(b, c)}, last3 = {c, 2, 3, root3, PATH(g)};
+    Proof last6 = {f, 5, 6, root6, PATH(e, k)};
+    Path to7 = PATH(c, d, g, l), carried3 = PATH(b, h, l);
+    size_t room = carried3.length;
+    carries("place 0 from 3 to 7", first3, 7, root, to7, room, PAIR, MTA_OK, carried3);
+    carries("place 2 from 3 to 7", last3, 7, root, to7, room, PAIR, MTA_OK, PATH(d, g, l));
+    carries("place 5 from 6 to 7", last6, 7, root, PATH(i, j, k), room, PAIR, MTA_OK, PATH(e, j, k));
+    carries("place 0 from 3 to 3", first3, 3, root3, none, HASH * MOST, PAIR, MTA_OK, first3.path);
+    carries("carried by another proof", first3, 7, root, PATH(c, d, g, k), room, PAIR, MTA_ROOT, none);
+    carries("carried by a node too few", first3, 7, root, PATH(d, g, l), room, PAIR, MTA_COUNT, none);
+    carries("carried back", last6, 3, root3, none, room, PAIR, MTA_RANGE, none);
+    carries("a path buffer too short", first3, 7, root, to7, room - 1, PAIR, MTA_ROOM, none);
+    carries("a pair buffer too short", first3, 7, root, to7, room, PAIR - 1, MTA_ROOM, none);
+
+    compares("a proof with itself", first3, a, first3.path, PAIR, MTA_OK);
+    compares("with another leaf", first3, b, first3.path, PAIR, MTA_ROOT);
+    compares("with a longer path", first3, a, carried3, PAIR, MTA_COUNT);
+    compares("a pair buffer too short to compare", first3, a, first3.path, PAIR - 1, MTA_ROOM);
 
     empty_slices(a);
     printf("%d passed, %d failed\n", passed, failed);

@@ -2,7 +2,11 @@
  *
  * A slice is a pointer and then its length; a pointer with length 0 is not read and may be NULL.
  * Every function takes any bytes and any numbers. It answers MTA_OK, or the number of its first
- * refusal, in the order in which its comment lists them; a refusal changes no byte. */
+ * refusal, in the order in which its comment lists them.
+ *
+ * A refusal changes no byte of a lent buffer (out, pair, state, schedule). The results written,
+ * collided, length and place are not NULL, and every call sets them, a refused one too; each comment
+ * says to what. What they held before is not looked at. */
 #ifndef MTA_H
 #define MTA_H
 
@@ -40,9 +44,12 @@ uint32_t mta_inclusion(const uint8_t *leaf, size_t leaf_len, uint64_t place, uin
 uint32_t mta_consistency(uint64_t first, uint64_t second, const uint8_t *root1, size_t root1_len,
                          const uint8_t *root2, size_t root2_len, const uint8_t *path, size_t path_len);
 
-/* Carries an inclusion proof at the first size to the second by a consistency proof. *collided is set where
- * the two proofs contradict each other: then the first 130 bytes of pair are two different strings of 65 bytes
- * with one SHA-256 value. Else the new path is written to out, *written bytes.
+/* Carries an inclusion proof at the first size to the second by a consistency proof. After MTA_OK one of two:
+ * - *collided is false: the first *written bytes of out are the new path (0 of them where it is empty). The rest
+ *   of out and pair are as before.
+ * - *collided is true, where the two proofs contradict each other: *written is 0, and the first 130 bytes of pair
+ *   are two different strings of 65 bytes with one SHA-256 value. The rest of pair and out are as before.
+ * After a refusal *written is 0 and *collided is false.
  * Refusals: mta_inclusion's, mta_consistency's, then MTA_ROOM (out shorter than the new path, or pair under 130). */
 uint32_t mta_carry(const uint8_t *leaf, size_t leaf_len, uint64_t place, uint64_t first, uint64_t second,
                    const uint8_t *root1, size_t root1_len, const uint8_t *root2, size_t root2_len,
@@ -50,8 +57,9 @@ uint32_t mta_carry(const uint8_t *leaf, size_t leaf_len, uint64_t place, uint64_
                    uint8_t *out, size_t out_len, uint8_t *pair, size_t pair_len,
                    uint64_t *written, bool *collided);
 
-/* Compares two inclusion proofs for one place, size and root. *collided is set where they differ: then pair
- * has two different strings with one SHA-256 value, as mta_carry leaves them.
+/* Compares two inclusion proofs for one place, size and root. After MTA_OK *collided is false where leaf hashes
+ * and paths are the same, and pair is as before; it is true where they differ, and pair has two different strings
+ * with one SHA-256 value, as mta_carry leaves them. After a refusal *collided is false.
  * Refusals: mta_inclusion's of the first, of the second, then MTA_ROOM (pair under 130). */
 uint32_t mta_compare(uint64_t place, uint64_t size, const uint8_t *root, size_t root_len,
                      const uint8_t *leaf1, size_t leaf1_len, const uint8_t *path1, size_t path1_len,
@@ -62,12 +70,14 @@ uint32_t mta_compare(uint64_t place, uint64_t size, const uint8_t *root, size_t 
  * hash of the empty string. Refusals: MTA_JOINED (not a multiple of 32, or over 2^32 leaves), MTA_ROOM. */
 uint32_t mta_root(const uint8_t *leaves, size_t leaves_len, uint8_t *out, size_t out_len);
 
-/* Reads an item (RFC 9162, sections 4.5 to 4.12). Its refusal's place is left in *place, else 0.
+/* Reads an item (RFC 9162, sections 4.5 to 4.12). After MTA_OK *place is 0. After a refusal it is where
+ * the field or inner element at fault starts, of MTA_EXTRA the first extra byte, and of MTA_LONG 0.
  * Refusals: MTA_LONG (over 33,554,432 bytes), then left to right MTA_CUT, MTA_TYPE, MTA_LENGTH, MTA_EXTRA. */
 uint32_t mta_item(const uint8_t *item, size_t item_len, uint64_t *place);
 
 /* Writes a consistency item (type 0x0105) from a log id of 2 to 127 bytes, two sizes and a joined path.
- * Its length is left in *length, 0 where it is refused.
+ * After MTA_OK the first *length bytes of out are the item, and the rest of out is as before. After a refusal
+ * *length is 0.
  * Refusals: MTA_LENGTH, MTA_JOINED, MTA_ROOM. */
 uint32_t mta_consistency_item(const uint8_t *log, size_t log_len, uint64_t first, uint64_t second,
                               const uint8_t *path, size_t path_len, uint8_t *out, size_t out_len,

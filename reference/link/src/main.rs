@@ -1,7 +1,9 @@
 //! link [COUNT [SEED]]: every entry of the proved static library beside the
 //! reference, the number and all lent memory compared: the ends of every
-//! range, then COUNT random verdicts and a fifth of it of each other entry.
+//! range, then COUNT random verdicts, a fiftieth of it of mta_carry and of
+//! mta_compare, and a fifth of it of each other entry.
 
+mod carry;
 mod compare;
 mod hash;
 mod item;
@@ -16,7 +18,7 @@ fn main() -> ExitCode {
     let count: u64 = arguments.next().unwrap_or(200_000);
     let random = &mut Random::new(arguments.next().unwrap_or(1));
     let tally = &mut Tally::default();
-    for edges in [hash::edges, tree::edges, item::edges] {
+    for edges in [hash::edges, tree::edges, carry::edges, item::edges] {
         edges(tally, random);
     }
     for _ in 0..count {
@@ -26,6 +28,9 @@ fn main() -> ExitCode {
         for some in [hash::some, tree::some, item::some] {
             some(tally, random);
         }
+    }
+    for _ in 0..count / 50 {
+        carry::some(tally, random);
     }
     if std::mem::take(tally).end() {
         ExitCode::SUCCESS

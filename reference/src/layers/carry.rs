@@ -66,11 +66,12 @@ fn compare(words: &[Word]) -> Option<Vec<Word>> {
 
 /// An inclusion proof and a consistency proof from its size and root.
 #[derive(Clone)]
-struct Carry {
-    old: Proof,
-    step: Proof,
-    lent: usize,
-    pair: usize,
+pub struct Carry {
+    pub old: Proof,
+    pub step: Proof,
+    /// The lengths of both lent buffers.
+    pub lent: usize,
+    pub pair: usize,
 }
 
 impl Carry {
@@ -80,13 +81,13 @@ impl Carry {
         Carry { old, step, lent, pair: carry::PAIR }
     }
 
-    fn of_list(list: &List, place: u64, first: u64) -> Carry {
+    pub fn of_list(list: &List, place: u64, first: u64) -> Carry {
         let old = List { leaves: list.leaves[..first as usize].to_vec(), root: crate::tree::root(digest, &list.leaves[..first as usize]) };
         Carry::new(old.inclusion(place), list.consistency(first))
     }
 
     /// Proofs that agree, for any numbers: the parts that both know are free.
-    fn made(place: u64, first: u64, second: u64, random: &mut Random) -> Carry {
+    pub fn made(place: u64, first: u64, second: u64, random: &mut Random) -> Carry {
         let subtree = if first == second { 0..first } else { full_subtree(place, first) };
         let mut known = Known::new(digest, vec![], &[]).with(place..place + 1, &random.hash());
         let siblings = inclusion_places(place, 0..first).into_iter();
@@ -126,14 +127,14 @@ impl Carry {
         requests.ask("carry", &self.words(0xa5));
     }
 
-    fn with(&self, change: impl FnOnce(&mut Carry)) -> Carry {
+    pub fn with(&self, change: impl FnOnce(&mut Carry)) -> Carry {
         let mut changed = self.clone();
         change(&mut changed);
         changed
     }
 
     /// One fault, or two that show the order.
-    fn damaged(&self, random: &mut Random) -> Vec<Carry> {
+    pub fn damaged(&self, random: &mut Random) -> Vec<Carry> {
         let flip = |bytes: &mut Vec<u8>, at: u64| {
             if let Some(byte) = bytes.get_mut(at as usize) {
                 *byte ^= 16;
@@ -309,18 +310,25 @@ fn random_numbers(random: &mut Random) -> (u64, u64, u64) {
     (place, first, second)
 }
 
-fn random_carry(random: &mut Random) -> Vec<Word> {
+/// None, one or two faults.
+pub fn some_carry(random: &mut Random) -> Carry {
     let (place, first, second) = random_numbers(random);
     let mut one = Carry::made(place, first, second, random);
     for _ in 0..*random.pick(&[0, 0, 1, 1, 2]) {
         let all = one.damaged(random);
         one = random.pick(&all).clone();
     }
+    one
+}
+
+fn random_carry(random: &mut Random) -> Vec<Word> {
+    let one = some_carry(random);
     let byte = random.byte();
     one.words(byte)
 }
 
-fn random_compare(random: &mut Random) -> Vec<Word> {
+/// A proof twice, each damaged at times, and a length of the pair buffer.
+pub fn some_compared(random: &mut Random) -> ([Proof; 2], usize) {
     let (place, size, _) = random_numbers(random);
     let good = crate::proofs::made_inclusion(place, size, random);
     let mut proofs = [good.clone(), good];
@@ -331,8 +339,12 @@ fn random_compare(random: &mut Random) -> Vec<Word> {
             *proof = random.pick(&all).clone();
         }
     }
-    let pair = *random.pick(&[130, 130, 130, 131, 129, 65, 0, 200]);
-    compare_words(&proofs[0], &proofs[1], pair)
+    (proofs, *random.pick(&[130, 130, 130, 131, 129, 65, 0, 200]))
+}
+
+fn random_compare(random: &mut Random) -> Vec<Word> {
+    let ([one, two], pair) = some_compared(random);
+    compare_words(&one, &two, pair)
 }
 
 #[cfg(test)]

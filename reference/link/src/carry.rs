@@ -1,0 +1,185 @@
+//! mta_carry and mta_compare. No two strings of one SHA-256 value are known, so
+//! no call here has `collided` set.
+
+use crate::compare::{show, Lent, Tally};
+use mta::{mta_carry, mta_compare};
+use reference::carry::{self, Carried, Compared, PAIR};
+use reference::layers::carry::{some_carry, some_compared, Carry};
+use reference::proofs::{damaged, damaged_lengths, damaged_nodes, made_inclusion, List, Proof, LARGE};
+use reference::random::Random;
+use reference::sha256::digest;
+use reference::tree::MOST_LEAVES;
+use reference::verdict::Inclusion;
+
+fn inclusion(proof: &Proof) -> Inclusion<'_> {
+    let ([place, size], [leaf, root], path) = (proof.numbers, &proof.hashes, &proof.path);
+    Inclusion { leaf, place, size, root, path }
+}
+
+/// The old size and root come from the inclusion proof. Both results are set by every call.
+fn carry(one: &Carry, tally: &mut Tally, random: &mut Random) {
+    let Carry { old, step, lent, pair } = one;
+    let (out, pair) = (random.bytes(*lent), random.bytes(*pair));
+    let (mut out_after, mut pair_after) = (out.clone(), pair.clone());
+    let ([leaf, root], [_, new_root]) = (&old.hashes, &step.hashes);
+    let answer = carry::carry(digest, &inclusion(old), step.numbers[1], new_root, &step.path, &mut out_after, &mut pair_after);
+    let (expected, length, is_collision) = match answer {
+        Ok(Carried::Path(length)) => (0, length as u64, 0),
+        Ok(Carried::Collision) => (0, 0, 1),
+        Err(number) => (number, 0, 0),
+    };
+    assert!(expected == 0 || (&out_after, &pair_after) == (&out, &pair), "a refusal changes no byte");
+    let [mut a, mut b, mut c] = [leaf, root, new_root].map(|bytes| Lent::new(bytes, random));
+    let [mut d, mut e, mut f, mut g] = [&old.path, &step.path, &out, &pair].map(|bytes| Lent::new(bytes, random));
+    let mut written = Lent::new(&[random.draw()], random);
+    let mut collided = Lent::new(&[random.byte() & 1], random);
+    let found = unsafe {
+        mta_carry(
+            a.pointer(),
+            a.length(),
+            old.numbers[0],
+            old.numbers[1],
+            step.numbers[1],
+            b.pointer(),
+            b.length(),
+            c.pointer(),
+            c.length(),
+            d.pointer(),
+            d.length(),
+            e.pointer(),
+            e.length(),
+            f.pointer(),
+            f.length(),
+            g.pointer(),
+            g.length(),
+            written.pointer(),
+            collided.pointer().cast(),
+        )
+    };
+    let is_read_right = a.holds(leaf) && b.holds(root) && c.holds(new_root) && d.holds(&old.path) && e.holds(&step.path);
+    let is_written_right = f.holds(&out_after) && g.holds(&pair_after) && written.holds(&[length]) && collided.holds(&[is_collision]);
+    tally.count("mta_carry", expected, found, is_read_right && is_written_right, || {
+        format!("{:?} to {:?}, out of {}, pair of {}", old.words(), step.words(), out.len(), pair.len())
+    });
+}
+
+/// The place, size and root come from the first proof. The result is set by every call.
+fn compare([one, two]: [&Proof; 2], pair: usize, tally: &mut Tally, random: &mut Random) {
+    let pair = random.bytes(pair);
+    let mut after = pair.clone();
+    let ([place, size], [leaf, root], [other, _]) = (one.numbers, &one.hashes, &two.hashes);
+    let (expected, is_collision) = match carry::compare(digest, &inclusion(one), other, &two.path, &mut after) {
+        Ok(Compared::Same) => (0, 0),
+        Ok(Compared::Collision) => (0, 1),
+        Err(number) => (number, 0),
+    };
+    assert!(expected == 0 || after == pair, "a refusal changes no byte");
+    let [mut a, mut b, mut c] = [root, leaf, &one.path].map(|bytes| Lent::new(bytes, random));
+    let [mut d, mut e, mut f] = [other, &two.path, &pair].map(|bytes| Lent::new(bytes, random));
+    let mut collided = Lent::new(&[random.byte() & 1], random);
+    let found = unsafe {
+        mta_compare(
+            place,
+            size,
+            a.pointer(),
+            a.length(),
+            b.pointer(),
+            b.length(),
+            c.pointer(),
+            c.length(),
+            d.pointer(),
+            d.length(),
+            e.pointer(),
+            e.length(),
+            f.pointer(),
+            f.length(),
+            collided.pointer().cast(),
+        )
+    };
+    let is_read_right = a.holds(root) && b.holds(leaf) && c.holds(&one.path) && d.holds(other) && e.holds(&two.path);
+    let is_written_right = f.holds(&after) && collided.holds(&[is_collision]);
+    tally.count("mta_compare", expected, found, is_read_right && is_written_right, || {
+        format!("{:?} with {}, {}, pair of {}", one.words(), show(other), show(&two.path), pair.len())
+    });
+}
+
+/// A carrying, then with faults, and in rooms next to the path's length and to the pair's.
+fn carry_and_damaged(one: &Carry, tally: &mut Tally, random: &mut Random) {
+    for other in [vec![one.clone()], one.damaged(random)].concat() {
+        carry(&other, tally, random);
+    }
+    for lent in [0, 1, one.lent.saturating_sub(32), one.lent.saturating_sub(1), one.lent, one.lent + 1, one.lent + 32] {
+        for pair in [0, PAIR - 1, PAIR, PAIR + 1] {
+            carry(&one.with(|c| (c.lent, c.pair) = (lent, pair)), tally, random);
+        }
+    }
+}
+
+/// A proof with itself, and with faults in the first, in the second and in both.
+fn compare_and_damaged(proof: &Proof, tally: &mut Tally, random: &mut Random) {
+    for pair in [0, 1, 65, PAIR - 1, PAIR, PAIR + 1, 2 * PAIR] {
+        compare([proof, proof], pair, tally, random);
+    }
+    let all = [damaged(proof, random), damaged_nodes(proof, random), damaged_lengths(proof, random)].concat();
+    for other in &all {
+        let pair = *random.pick(&[0, PAIR - 1, PAIR, PAIR + 9]);
+        compare([proof, other], pair, tally, random);
+        compare([other, proof], pair, tally, random);
+        compare([other, random.pick(&all)], pair, tally, random);
+    }
+}
+
+pub fn edges(tally: &mut Tally, random: &mut Random) {
+    for size in 1..=9 {
+        let (list, another) = (List::random(size, random), List::random(size, random));
+        for first in 1..=size as u64 {
+            for place in 0..first {
+                let one = Carry::of_list(&list, place, first);
+                carry_and_damaged(&one, tally, random);
+                // Two proofs that are accepted, under two roots.
+                let other = Carry::of_list(&another, place, first);
+                carry(&one.with(|c| c.step = other.step), tally, random);
+            }
+        }
+        for place in 0..size as u64 {
+            let proof = list.inclusion(place);
+            compare_and_damaged(&proof, tally, random);
+            for other in 0..size as u64 {
+                compare([&proof, &list.inclusion(other)], PAIR, tally, random);
+                compare([&proof, &another.inclusion(other)], PAIR, tally, random);
+            }
+        }
+    }
+    const HALF: u64 = MOST_LEAVES / 2;
+    for (place, first, second) in [
+        (0, 1, MOST_LEAVES),
+        (2, 3, MOST_LEAVES - 1),
+        (0, HALF - 1, MOST_LEAVES),
+        (5, HALF, MOST_LEAVES),
+        (HALF, HALF + 1, MOST_LEAVES),
+        (0, MOST_LEAVES - 1, MOST_LEAVES),
+        (MOST_LEAVES - 2, MOST_LEAVES - 1, MOST_LEAVES),
+        (MOST_LEAVES - 1, MOST_LEAVES, MOST_LEAVES),
+        (7, MOST_LEAVES, MOST_LEAVES + 1),
+        (MOST_LEAVES, MOST_LEAVES + 1, MOST_LEAVES + 1),
+    ] {
+        carry_and_damaged(&Carry::made(place, first, second, random), tally, random);
+        compare_and_damaged(&made_inclusion(place, first, random), tally, random);
+    }
+    let (one, proof) = (Carry::made(2, 5, 9, random), made_inclusion(2, 5, random));
+    for large in [&[0][..], &LARGE].concat() {
+        carry(&one.with(|c| c.old.numbers[0] = large), tally, random);
+        carry(&one.with(|c| c.old.numbers[1] = large), tally, random);
+        carry(&one.with(|c| c.step.numbers[1] = large), tally, random);
+        for numbers in [[large, 5], [2, large], [large, large]] {
+            compare([&Proof { numbers, ..proof.clone() }, &proof], PAIR, tally, random);
+        }
+    }
+}
+
+pub fn some(tally: &mut Tally, random: &mut Random) {
+    let one = some_carry(random);
+    carry(&one, tally, random);
+    let ([one, two], pair) = some_compared(random);
+    compare([&one, &two], pair, tally, random);
+}
