@@ -36,13 +36,10 @@ fn after(a: Audit, record: Record, told: bool, number: u32) -> Audit {
 
 fn tell_head(what: &[u8], head: Head) {
     words(what);
-    words(b" of ");
-    say::number(head.size);
-    words(b" pages, time ");
-    say::number(head.timestamp);
-    words(b", root ");
+    say::count(b", ", head.size);
+    say::count(b" pages, time ", head.timestamp);
     let root = head.root;
-    say::short(&root);
+    say::short(b", root ", &root);
 }
 
 fn offered(r: Record, id: &[u8], head: Head, path: Made) -> Answered {
@@ -75,14 +72,11 @@ pub(crate) fn offer(
 
 fn tell_page(what: &[u8], place: u64, size: u64, page: Made) {
     words(what);
-    words(b" at place ");
-    say::number(place);
-    words(b" under the head of ");
-    say::number(size);
-    words(b", leaf hash ");
+    say::count(b", place ", place);
+    say::count(b" of ", size);
     let hashed = leaf(page);
     let digest = hashed.digest.bytes;
-    say::short(&digest);
+    say::short(b", leaf hash ", &digest);
 }
 
 fn asked(r: Record, place: u64, page: Made, path: Made) -> Answered {
@@ -106,19 +100,30 @@ pub(crate) fn ask(
     after(a, answered.after, told, first(page.number, path.number))
 }
 
-// What a dispute answers, and whether it says that the pages are the same.
-fn settled(answer: Settled) -> bool {
-    match answer {
-        Settled::Same => {
-            words(b"same\n");
-            return true;
-        }
-        Settled::Nodes => words(b"two strings of nodes with one hash"),
-        Settled::Pages => words(b"two pages with one leaf hash"),
-        Settled::Refused(n) => say::verdict(n),
-    }
+fn same() -> bool {
+    words(b"same\n");
+    true
+}
+
+fn unlike(answer: &[u8]) -> bool {
+    words(answer);
     words(b"\n  UNEXPECTED: the answer should be: same\n");
     false
+}
+
+fn refused(n: u32) -> bool {
+    say::verdict(b"", n);
+    unlike(b"")
+}
+
+// Prints what a dispute answers, and says whether the pages are the same.
+fn settled(answer: Settled) -> bool {
+    match answer {
+        Settled::Same => same(),
+        Settled::Nodes => unlike(b"two strings of nodes with one hash"),
+        Settled::Pages => unlike(b"two pages with one leaf hash"),
+        Settled::Refused(n) => refused(n),
+    }
 }
 
 // The dispute over one page that was accepted twice: with `path` under the head of `size` pages and `root`, and with `later` under the next head, which

@@ -40,7 +40,7 @@ pub(crate) fn first(a: u32, b: u32) -> u32 {
 }
 
 // An index behind another; past every array where it has no number.
-fn after(at: usize, i: usize) -> usize {
+pub(crate) fn after(at: usize, i: usize) -> usize {
     if at > usize::MAX - i {
         return usize::MAX;
     }

@@ -1,5 +1,6 @@
 // The archive's log: leaf hashes in the order of filing, heads over them, and paths.
 use crate::bytes::Made;
+use crate::bytes::after;
 use crate::bytes::blank;
 use crate::bytes::first;
 use crate::bytes::put_all;
@@ -79,24 +80,25 @@ pub(crate) fn save_over(log: Log, place: usize, page: Made) -> Log {
     with(log, place, page, log.size)
 }
 
-// The log when it had its first pages alone.
-pub(crate) fn at_size(log: Log, size: usize) -> Log {
+// The log with one number more that was answered on its way.
+pub(crate) fn noted(log: Log, number: u32) -> Log {
     let leaves = log.leaves;
     Log {
-        number: log.number,
-        size,
+        number: first(log.number, number),
+        size: log.size,
         leaves,
     }
 }
 
-pub(crate) fn head_of(log: Log, timestamp: u64) -> Head {
+// The head over the first `size` pages.
+pub(crate) fn head_of(log: Log, size: usize, timestamp: u64) -> Head {
     let leaves = log.leaves;
-    let made = tree::build::root_of(slice(&leaves, hashes(log.size)));
+    let made = tree::build::root_of(slice(&leaves, hashes(size)));
     let root = made.digest.bytes;
     Head {
         number: first(log.number, made.number),
         timestamp,
-        size: log.size as u64,
+        size: size as u64,
         root,
     }
 }
@@ -116,15 +118,15 @@ fn built(log: Log, answer: Built, bytes: [u8; 256]) -> Made {
     }
 }
 
-// The path of a place.
-pub(crate) fn inclusion(log: Log, place: u64) -> Made {
+// The path of a place under the head over the first `size` pages.
+pub(crate) fn inclusion(log: Log, size: usize, place: u64) -> Made {
     let leaves = log.leaves;
     let mut bytes = blank();
-    let answer = inclusion_path(slice(&leaves, hashes(log.size)), place, &mut bytes);
+    let answer = inclusion_path(slice(&leaves, hashes(size)), place, &mut bytes);
     built(log, answer, bytes)
 }
 
-// The path from an earlier size.
+// The path from an earlier size to the log's own.
 pub(crate) fn consistency(log: Log, from: u64) -> Made {
     let leaves = log.leaves;
     let mut bytes = blank();
@@ -154,17 +156,9 @@ fn put_head(head: Head, path: Made, out: &mut [u8]) {
 pub(crate) fn joined(head: Head, path: Made) -> Made {
     let mut bytes = blank();
     put_head(head, path, &mut bytes);
-    let len = path.len;
-    if len > 214 {
-        return Made {
-            number: 9,
-            len: 0,
-            bytes,
-        };
-    }
     Made {
         number: first(head.number, path.number),
-        len: 42 + len,
+        len: after(42, path.len),
         bytes,
     }
 }

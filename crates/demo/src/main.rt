@@ -17,12 +17,12 @@ use bytes::Made;
 use bytes::slice;
 use log::Log;
 use log::add;
-use log::at_size;
 use log::consistency;
 use log::head_of;
 use log::inclusion;
 use log::joined;
 use log::no_path;
+use log::noted;
 use log::save_over;
 use pages::page;
 use say::words;
@@ -32,26 +32,25 @@ const LOG: [u8; 2] = [0x2A, 3];
 
 const OTHER_LOG: [u8; 2] = [0x2A, 4];
 
-// Prints a page with its place and its leaf hash.
-fn show(place: usize, page: Made) {
+// Prints a page with its place and its leaf hash. 4: it is no page.
+fn show(place: usize, page: Made) -> u32 {
     let bytes = page.bytes;
     let hashed = log::leaf(page);
     let digest = hashed.digest.bytes;
-    words(b"  ");
-    say::number(place as u64);
-    words(b"  ");
-    say::short(&digest);
-    words(b"  ");
-    pages::tell(slice(&bytes, page.len));
+    say::count(b"  ", place as u64);
+    say::short(b"  ", &digest);
+    pages::tell(slice(&bytes, page.len))
 }
 
 fn file(log: Log, page: Made) -> Log {
-    show(log.size, page);
-    add(log, page)
+    let read = show(log.size, page);
+    add(noted(log, read), page)
 }
 
 fn file_seven(signed: Made) -> Log {
-    words(b"An archive files seven pages of agreements. Place, leaf hash and page:\n");
+    words(
+        b"An archive files seven pages of agreements. The place, the leaf hash and the text of each:\n",
+    );
     let mut log = log::empty();
     log = file(
         log,
@@ -79,13 +78,14 @@ fn file_seven(signed: Made) -> Log {
 
 // The auditor follows the archive from three pages to seven.
 fn follow(log: Log, signed: Made) -> Audit {
-    words(b"\nAn auditor takes the archive's heads, and asks for a page under each.\n");
-    let early = at_size(log, 3);
-    let one = head_of(early, 1000);
-    let two = head_of(log, 2000);
-    let path = inclusion(early, 2);
+    words(
+        b"\nAn auditor takes the archive's heads (a count of pages, one root over them) and asks for a page:\n",
+    );
+    let one = head_of(log, 3, 1000);
+    let path = inclusion(log, 3, 2);
+    let two = head_of(log, 7, 2000);
     let between = consistency(log, 3);
-    let later = inclusion(log, 2);
+    let later = inclusion(log, 7, 2);
     let mut a = audit::start();
     a = offer(a, b"  Head", &LOG, one, no_path(), 0);
     a = ask(a, b"  Page", 2, signed, path, 0);
@@ -94,11 +94,13 @@ fn follow(log: Log, signed: Made) -> Audit {
     compare(a, 2, signed, one, path, joined(two, between), later)
 }
 
-// The amended page, alone and under heads over the log that has it.
+// The amended page: by itself, and under heads over a log that has it.
 fn amend(given: Audit, log: Log, amended: Made) -> Audit {
-    words(b"\nThe archive saves an amended page over the signed one:\n");
-    show(2, amended);
-    let changed = save_over(log, 2, amended);
+    words(
+        b"\nThe archive saves an amended page over the signed one, and tries to have it accepted:\n",
+    );
+    let read = show(2, amended);
+    let changed = save_over(noted(log, read), 2, amended);
     let longer = add(
         changed,
         page(307, 1, b"6 mice of line BALB/c to Laboratory C"),
@@ -106,33 +108,33 @@ fn amend(given: Audit, log: Log, amended: Made) -> Audit {
     let mut a = given;
     a = ask(
         a,
-        b"  Amended page, signed page's path,",
+        b"  Amended page, signed page's path",
         2,
         amended,
-        inclusion(log, 2),
+        inclusion(log, 7, 2),
         8,
     );
     a = ask(
         a,
-        b"  Amended page, its own path,",
+        b"  Amended page, its own path",
         2,
         amended,
-        inclusion(changed, 2),
+        inclusion(changed, 7, 2),
         8,
     );
     a = offer(
         a,
-        b"  Head over the amended page,",
+        b"  Head over it",
         &LOG,
-        head_of(changed, 3000),
+        head_of(changed, 7, 3000),
         no_path(),
         13,
     );
     offer(
         a,
-        b"  Head over the amended page,",
+        b"  Head over it",
         &LOG,
-        head_of(longer, 3000),
+        head_of(longer, 8, 3000),
         consistency(longer, 7),
         8,
     )
@@ -140,29 +142,31 @@ fn amend(given: Audit, log: Log, amended: Made) -> Audit {
 
 // Heads over the signed pages that don't follow the one held.
 fn go_back(given: Audit, log: Log) -> Audit {
-    words(b"\nIt offers heads over the signed pages that do not follow the one held:\n");
+    words(
+        b"\nIt offers heads over the signed pages that do not follow the one that the auditor holds:\n",
+    );
     let mut a = given;
     a = offer(
         a,
-        b"  Head with an earlier time,",
+        b"  Head with an earlier time",
         &LOG,
-        head_of(log, 1500),
+        head_of(log, 7, 1500),
         no_path(),
         12,
     );
     a = offer(
         a,
-        b"  Head of another log,",
+        b"  Head of another log",
         &OTHER_LOG,
-        head_of(log, 3000),
+        head_of(log, 7, 3000),
         no_path(),
         11,
     );
     offer(
         a,
-        b"  Head of a smaller tree,",
+        b"  Head of a smaller tree",
         &LOG,
-        head_of(at_size(log, 3), 3000),
+        head_of(log, 3, 3000),
         no_path(),
         6,
     )
@@ -186,6 +190,6 @@ fn main() {
     a = amend(a, log, amended);
     a = go_back(a, log);
     words(b"\nThe signed page is asked for once more:\n");
-    a = ask(a, b"  Signed page", 2, signed, inclusion(log, 2), 0);
+    a = ask(a, b"  Signed page", 2, signed, inclusion(log, 7, 2), 0);
     conclude(a.good);
 }

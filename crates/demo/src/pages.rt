@@ -2,7 +2,7 @@
 use crate::bytes::Made;
 use crate::bytes::blank;
 use crate::bytes::part;
-use crate::say::number;
+use crate::say::count;
 use crate::say::words;
 use item::Item;
 use item::Numbers;
@@ -44,34 +44,39 @@ fn made(written: Written, bytes: [u8; 256]) -> Made {
 // One page of an agreement.
 pub(crate) fn page(agreement: u64, page: u16, body: &[u8]) -> Made {
     let mut bytes = blank();
+    let none: &[u8] = b"";
     let written = item::write(
         PAGE,
         numbers(agreement, page),
-        b"",
-        b"",
-        b"",
-        b"",
-        b"",
-        b"",
-        b"",
+        none,
+        none,
+        none,
+        none,
+        none,
+        none,
+        none,
         body,
         &mut bytes,
     );
     made(written, bytes)
 }
 
-fn tell_fields(bytes: &[u8], agreement: Part, page: Part, body: Part) {
-    words(b"agreement ");
-    number(agreement.value);
-    words(b", page ");
-    number(page.value);
+fn tell_fields(bytes: &[u8], agreement: Part, page: Part, body: Part) -> u32 {
+    count(b"  agreement ", agreement.value);
+    count(b", page ", page.value);
     words(b": ");
     words(part(bytes, body.start, body.len));
     words(b"\n");
+    0
 }
 
-// What stands on a page, as the reader of items finds it.
-pub(crate) fn tell(page: &[u8]) {
+fn no_page() -> u32 {
+    words(b"  UNEXPECTED: this is no page\n");
+    4
+}
+
+// Prints what stands on a page, as the reader of items finds it. 4: it is no page.
+pub(crate) fn tell(page: &[u8]) -> u32 {
     let found = item::read(page);
     match found {
         Item::Page {
@@ -81,6 +86,6 @@ pub(crate) fn tell(page: &[u8]) {
             page: sheet,
             body,
         } => tell_fields(page, agreement, sheet, body),
-        _ => words(b"UNEXPECTED: this is no page\n"),
+        _ => no_page(),
     }
 }

@@ -5,59 +5,51 @@ pub(crate) fn words(text: &[u8]) {
     io::write_all(STDOUT_FILENO, text);
 }
 
-pub(crate) fn number(n: u64) {
+// Words, and a number.
+pub(crate) fn count(text: &[u8], n: u64) {
+    io::write_all(STDOUT_FILENO, text);
     io::print_decimal(STDOUT_FILENO, n);
 }
 
-// The first 8 bytes of a hash.
-pub(crate) fn short(hash: &[u8]) {
+// Words, and the first 8 bytes of a hash.
+pub(crate) fn short(text: &[u8], hash: &[u8]) {
+    io::write_all(STDOUT_FILENO, text);
     io::print_hex(STDOUT_FILENO, item::big_endian(hash), 16);
 }
 
-// What the number of a refusal means.
+// What the number of a refusal means. An auditor's answers are here; README.md has all.
 fn meaning(n: u32) {
     match n {
-        1 => words(b"input over the length limit"),
-        2 => words(b"a field is cut short"),
-        3 => words(b"bytes after the last field"),
-        4 => words(b"type not in the list"),
-        5 => words(b"a length out of range"),
-        6 => words(b"size or place out of range, or a smaller tree"),
-        7 => words(b"wrong count of nodes"),
-        8 => words(b"a root disagrees"),
-        9 => words(b"a lent buffer is too short"),
-        10 => words(b"not whole hashes, or too many"),
-        11 => words(b"other log"),
-        12 => words(b"earlier timestamp"),
-        13 => words(b"same size, other root"),
-        14 => words(b"no head yet"),
-        _ => words(b"no meaning"),
+        6 => words(b" (a size or place out of range, or a smaller tree)"),
+        7 => words(b" (wrong count of nodes)"),
+        8 => words(b" (a root disagrees)"),
+        11 => words(b" (other log)"),
+        12 => words(b" (earlier timestamp)"),
+        13 => words(b" (same size, other root)"),
+        14 => words(b" (no head yet)"),
+        _ => words(b" (see README.md)"),
     }
 }
 
-// 0, or the number of a refusal.
-pub(crate) fn verdict(n: u32) {
+// Words, and 0 or the number of a refusal.
+pub(crate) fn verdict(text: &[u8], n: u32) {
+    words(text);
     if n == 0 {
         words(b"accepted");
         return;
     }
-    words(b"refused, ");
-    number(n as u64);
-    words(b" (");
+    count(b"refused, ", n as u64);
     meaning(n);
-    words(b")");
 }
 
 // Ends a line with what a call answered, and says whether that was expected.
 pub(crate) fn answer(n: u32, expected: u32) -> bool {
-    words(b": ");
-    verdict(n);
+    verdict(b": ", n);
     words(b"\n");
     if n == expected {
         return true;
     }
-    words(b"  UNEXPECTED: the answer should be: ");
-    verdict(expected);
+    verdict(b"  UNEXPECTED: the answer should be: ", expected);
     words(b"\n");
     false
 }
@@ -67,8 +59,7 @@ pub(crate) fn made(n: u32) -> bool {
     if n == 0 {
         return true;
     }
-    words(b"  UNEXPECTED: what the archive hands over was ");
-    verdict(n);
+    verdict(b"  UNEXPECTED: what the archive hands over was ", n);
     words(b"\n");
     false
 }
