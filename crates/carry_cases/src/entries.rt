@@ -85,7 +85,7 @@ pub(crate) fn answer(
     out: &mut [u8],
 ) -> usize {
     if names(line, b"carry", r, b"bnnbbnbbbb") {
-        let mut space = io::buffer();
+        let mut space = crate::memory();
         return forward(r, mem, lent, &mut space, out);
     }
     if names(line, b"compare", r, b"nnbbbbbb") {
