@@ -11,3 +11,4 @@ pub mod Forwarding
 pub mod Carrying
 pub mod Honest
 pub mod Table
+pub mod Levelling

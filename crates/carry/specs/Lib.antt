@@ -5,3 +5,5 @@ pub mod Inner
 pub mod Compares
 pub mod Carries
 pub mod Cases
+pub mod Levels
+pub mod Claims

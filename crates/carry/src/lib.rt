@@ -7,3 +7,18 @@ mod accept; // when both verdicts accept
 mod bytes; // strings and paths, written into lent buffers
 mod level; // one level of two proofs
 mod walk; // the way down to the full subtree that holds a place
+
+ghost use Rattle.carry.specs.Carries.{Carrying, Honest};
+ghost use Rattle.carry.specs.Cases.{Starred};
+ghost use Rattle.carry.specs.Claims.{OfAnyHash};
+ghost use Rattle.carry.specs.Compares.{Comparing};
+ghost use Rattle.carry.specs.Levels.{Levelled};
+
+// What is proved of carrying and comparing beside their own promises, over any hash of 32-byte values. It does nothing.
+pub fn claims()
+    ensures carrying { λ _. ⌜ OfAnyHash Carrying ⌝ }
+    ensures honest { λ _. ⌜ OfAnyHash Honest ⌝ }
+    ensures comparing { λ _. ⌜ OfAnyHash Comparing ⌝ }
+    ensures levelled { λ _. ⌜ OfAnyHash Levelled ⌝ }
+    ensures starred { λ _. ⌜ Starred ⌝ }
+{}
