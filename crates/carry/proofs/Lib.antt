@@ -12,3 +12,4 @@ pub mod Carrying
 pub mod Honest
 pub mod Table
 pub mod Levelling
+pub mod Computing

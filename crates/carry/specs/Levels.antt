@@ -78,7 +78,9 @@ module _ (H : List ℕ → List ℕ) where
 
   pub record Levelled : Type 0 where
     -- comparing: the first proof's string is first
-    pub compares : (m n : ℕ) (h : List ℕ) (p : List (List ℕ)) (g : List ℕ) (q : List (List ℕ)) → Finds (inclusionStrings m n h p) (inclusionStrings m n g q) (differ H m n h p g q)
+    pub compares :
+        (m n : ℕ) (h : List ℕ) (p : List (List ℕ)) (g : List ℕ) (q : List (List ℕ)) →
+        Finds (inclusionStrings m n h p) (inclusionStrings m n g q) (differ H m n h p g q)
     -- carrying: the inclusion proof's string is first
     pub carries :
         (m n x : ℕ) (h : List ℕ) (p : List (List ℕ)) (f : List ℕ) (q : List (List ℕ)) → x < m → m < n →

@@ -6,4 +6,5 @@ pub mod Compares
 pub mod Carries
 pub mod Cases
 pub mod Levels
+pub mod Examples
 pub mod Claims

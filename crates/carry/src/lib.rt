@@ -12,6 +12,7 @@ ghost use Rattle.carry.specs.Carries.{Carrying, Honest};
 ghost use Rattle.carry.specs.Cases.{Starred};
 ghost use Rattle.carry.specs.Claims.{OfAnyHash};
 ghost use Rattle.carry.specs.Compares.{Comparing};
+ghost use Rattle.carry.specs.Examples.{Collisions};
 ghost use Rattle.carry.specs.Levels.{Levelled};
 
 // What is proved of carrying and comparing beside their own promises, over any hash of 32-byte values. It does nothing.
@@ -21,4 +22,5 @@ pub fn claims()
     ensures comparing { λ _. ⌜ OfAnyHash Comparing ⌝ }
     ensures levelled { λ _. ⌜ OfAnyHash Levelled ⌝ }
     ensures starred { λ _. ⌜ Starred ⌝ }
+    ensures collisions { λ _. ⌜ Collisions ⌝ }
 {}
