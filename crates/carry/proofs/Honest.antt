@@ -34,7 +34,7 @@ use Rattle.carry.proofs.Sizing.{at-32}
 use Rattle.carry.proofs.Carrying.{long}
 use Rattle.carry.proofs.Stepping.{conflict-all, conflict-low, conflict-here, conflict-beyond, forward-all, forward-low, forward-here, forward-beyond}
 
-drop-take : {A : Type 0} (n m : ℕ) (l : List A) → drop n (take m l) ≡ take (m - n) (drop n l)
+pub drop-take : {A : Type 0} (n m : ℕ) (l : List A) → drop n (take m l) ≡ take (m - n) (drop n l)
 drop-take zero m l = let e : m ≡ m - 0 = omega arith in ap (λ (k : ℕ). take k l) e
 drop-take (suc n) zero l = let e : 0 ≡ 0 - suc n = omega arith in ap (λ (k : ℕ). take k (drop (suc n) l)) e
 drop-take (suc n) (suc m) [] = sym (take-nil (suc m - suc n))

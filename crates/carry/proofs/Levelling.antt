@@ -3,20 +3,17 @@ use mathlib.Core.Path.{_≡_, refl, sym, ap, ap₂, _∙_}
 use mathlib.Core.Logic.{_⊎_, inl, inr, ⊎-elim}
 use mathlib.Core.Bool.{Bool, true, false, cond}
 use mathlib.Core.List.{List, [], _∷_}
-use Prim.Native.Nat.{ℕ, zero, suc, _+_, _-_, _*_, _^_, _≤_, _<_}
+use Prim.Native.Nat.{ℕ, zero, suc, _+_, _-_, _^_, _≤_, _<_}
 use native.Mathlib.Omega.{arith}
-use native.Mathlib.Nat.{eq-or-lt-of-le, pow-succ'}
-use lib.Count.{ones, ones-cat}
-use lib.Dec.{leb, ltb, eqb}
-use lib.ListN.{length, take, getD, length-take}
-use lib.Pow.{pow-pos}
-use borrow.Author.Tests.{lt-ltb, le-ltb, eq-eqb, ne-eqb, le-leb, lt-leb}
+use lib.Dec.{leb, eqb}
+use lib.ListN.{length, take, getD}
+use borrow.Author.Tests.{lt-ltb, le-ltb}
 use Rattle.tree.specs.Split.{split, Shape, one, fork, size, shape}
 use Rattle.tree.specs.Tree.{node}
-use Rattle.tree.specs.Yield.{init, last, inclusionRootOf, inclusionRoot, consistencyRootOf, oldRoot}
+use Rattle.tree.specs.Yield.{init, last, inclusionRoot, consistencyRootOf, oldRoot}
 use Rattle.tree.specs.Count.{inclusionCountOf}
-use Rattle.tree.proofs.Splitting.{lt-or-ge, split-ends, split-power, split-unique, split-same, shape-one, shape-fork, size-shape, by-splits}
-use Rattle.tree.proofs.Rfc.{size-left, size-right}
+use Rattle.tree.proofs.Splitting.{lt-or-ge, split-ends, split-same, shape-fork, by-splits}
+use Rattle.tree.proofs.Rfc.{size-left}
 use Rattle.tree.proofs.Joining.{same-of}
 use Rattle.carry.specs.Strings.{string, Difference, alike, apart, topmost}
 use Rattle.carry.specs.Compare.{differOf, differ}
@@ -24,6 +21,7 @@ use Rattle.carry.specs.Forward.{conflict}
 use Rattle.carry.specs.Levels.{First, Finds, aboveOf, subtreesOf, subtrees, inclusionStringsOf, inclusionStrings, together, togetherStrings, Levelled}
 use Rattle.carry.proofs.Pairing.{same-cases, not-same, differs, top-same, top-apart}
 use Rattle.carry.proofs.Stepping.{conflict-all, conflict-low, conflict-here, conflict-beyond}
+use Rattle.carry.proofs.Subtrees.{Within, narrowed, above-full, above-here, above-beyond, subtrees-low, subtrees-high, subtrees-some, Bits, bits, own}
 
 -- ---- two lists of strings
 
@@ -109,118 +107,7 @@ module _ (H : List ℕ → List ℕ) where
       (λ l. rw (le-ltb m (size a) l) (ap (topmost _ _) (differ-first b (m - size a) h (init p) g (init q))))
       (lt-or-ge m (size a))
 
--- ---- S
-
--- of n leaves, m are old: all that follow are later, or all are old and n is a power of two
-Within : ℕ → ℕ → Type 0
-Within m n = (m < n) ⊎ ((m ≡ n) × ((j : ℕ) × (m ≡ 2 ^ j)))
-
--- a power of two of leaves is a full tree
-above-full : (j x : ℕ) → aboveOf (shape (2 ^ j)) x ≡ 0
-unfolding aboveOf
-above-full zero x = rw shape-one
-above-full (suc j) x =
-    let d : 2 ^ suc j ≡ 2 * 2 ^ j = pow-succ' 2 j in
-    let z = pow-pos j in
-    let more : 1 < 2 ^ suc j = omega arith in
-    let e : split (2 ^ suc j) ≡ 2 ^ j = split-unique (2 ^ suc j) j more (omega arith) (omega arith) in
-    let l = size-left (2 ^ suc j) more in
-    let r = size-right (2 ^ suc j) more in
-    rw (shape-fork (2 ^ suc j) more, eq-eqb (size (shape (split (2 ^ suc j)))) (size (shape (2 ^ suc j - split (2 ^ suc j)))) (omega arith))
-
--- where the first part is the larger
-module _ (m x : ℕ) (more : 1 < m) (lop : m - split m < split m) where
-  sides : size (shape (split m)) ≡ size (shape (m - split m)) → ⊥
-  sides e = let l = size-left m more in let r = size-right m more in omega arith
-
-  above-here : x < split m → aboveOf (shape m) x ≡ 1
-  unfolding aboveOf
-  above-here h =
-      let l = size-left m more in
-      rw (shape-fork m more, ne-eqb (size (shape (split m))) (size (shape (m - split m))) sides, lt-ltb x (size (shape (split m))) (omega arith))
-
-  above-beyond : split m ≤ x → aboveOf (shape m) x ≡ suc (aboveOf (shape (m - split m)) (x - split m))
-  unfolding aboveOf
-  above-beyond h =
-      let l = size-left m more in
-      rw (shape-fork m more, ne-eqb (size (shape (split m))) (size (shape (m - split m))) sides, le-ltb x (size (shape (split m))) (omega arith), l)
-
--- ---- the full subtrees
-
-module _ (m n : ℕ) (b : Bool) (f : List ℕ) (q : List (List ℕ)) where
-  subtrees-whole : (s : Shape) → m ≡ size s → subtreesOf s m b f q ≡ cond b f (last q) ∷ []
-  unfolding subtreesOf size
-  subtrees-whole one e = refl
-  subtrees-whole (fork x y) e = rw (eq-eqb m (size x + size y) e)
-
-  subtrees-all : 0 < m → m ≡ n → subtreesOf (shape n) m b f q ≡ cond b f (last q) ∷ []
-  subtrees-all z e = subtrees-whole (shape n) (e ∙ sym (size-shape n (omega arith)))
-
-  module _ (some : 0 < m) (lt : m < n) where
-    several : 1 < n
-    several = omega arith
-
-    part : m ≡ size (shape (split n)) + size (shape (n - split n)) → ⊥
-    part e = let s = split-ends n several in let u = size-left n several in let v = size-right n several in omega arith
-
-    subtrees-low : m ≤ split n → subtreesOf (shape n) m b f q ≡ subtreesOf (shape (split n)) m b f (init q)
-    unfolding subtreesOf
-    subtrees-low l =
-        let z = size-left n several in
-        rw (shape-fork n several, ne-eqb m (size (shape (split n)) + size (shape (n - split n))) part, le-leb m (size (shape (split n))) (omega arith))
-
-    subtrees-high : split n < m → subtreesOf (shape n) m b f q ≡ last q ∷ subtreesOf (shape (n - split n)) (m - split n) false f (init q)
-    unfolding subtreesOf
-    subtrees-high l =
-        let z = size-left n several in
-        rw (shape-fork n several, ne-eqb m (size (shape (split n)) + size (shape (n - split n))) part, lt-leb m (size (shape (split n))) (omega arith), z)
-
--- there is one
-subtrees-some : (s : Shape) (m : ℕ) (b : Bool) (f : List ℕ) (q : List (List ℕ)) → 0 < length (subtreesOf s m b f q)
-unfolding subtreesOf
-subtrees-some one m b f q = omega arith
-subtrees-some (fork x y) m b f q = go (eqb m (size x + size y)) (leb m (size x)) (subtrees-some x m b f (init q))
-  where
-    go : (t u : Bool) → 0 < length (subtreesOf x m b f (init q)) → 0 < length (cond t (cond b f (last q) ∷ []) (cond u (subtreesOf x m b f (init q)) (last q ∷ subtreesOf y (m - size x) false f (init q))))
-    go true u h = omega arith
-    go false true h = h
-    go false false h = omega arith
-
--- as many as m has one-bits
-Bits : ℕ → Type 0
-Bits n = (m : ℕ) (b : Bool) (f : List ℕ) (q : List (List ℕ)) → 0 < m → Within m n → length (subtreesOf (shape n) m b f q) ≡ ones m
-
-ones-power : (j r : ℕ) → r < 2 ^ j → ones (2 ^ j + r) ≡ 1 + ones r
-unfolding ones
-ones-power j r h = let e : 1 * 2 ^ j + r ≡ 2 ^ j + r = omega arith in ap ones (sym e) ∙ ones-cat j 1 r h
-
-bits-all : (n m : ℕ) (b : Bool) (f : List ℕ) (q : List (List ℕ)) → 0 < m → (m ≡ n) × ((j : ℕ) × (m ≡ 2 ^ j)) → length (subtreesOf (shape n) m b f q) ≡ ones m
-unfolding ones
-bits-all n m b f q z w =
-    let p = w .1 .1 in
-    let g : 2 ^ w .1 .0 + 0 ≡ m = omega arith in
-    ap length (subtrees-all m n b f q z (w .0)) ∙ sym (ap ones (sym g) ∙ ones-power (w .1 .0) 0 (pow-pos (w .1 .0)))
-
--- the part that holds the old leaves, where it is the first
-narrowed : (m n : ℕ) → m ≤ split n → Within m (split n)
-unfolding Within
-narrowed m n l = let p = split-power n in ⊎-elim (λ e. inr (e, (p .0, e ∙ p .1))) (λ h. inl h) (eq-or-lt-of-le l)
-
-bits : (n : ℕ) → 0 < n → Bits n
-unfolding Bits Within
-bits =
-    by-splits Bits (λ m b f q z w. ⊎-elim (λ lt. absurd (omega arith)) (λ e. bits-all 1 m b f q z e) w)
-    (λ n more gl gr m b f q z w.
-    let s = split-ends n more in
-    let p = split-power n in
-    let c = p .1 in
-    ⊎-elim (λ lt.
-    ⊎-elim (λ hi.
-    let d : 2 ^ p .0 + (m - split n) ≡ m = omega arith in
-    ap length (subtrees-high m n b f q z lt hi) ∙ (let i = gr (m - split n) false f (init q) (omega arith) (inl (omega arith)) in let o = ones-power (p .0) (m - split n) (omega arith) in let k = ap ones d in omega arith))
-    (λ l. ap length (subtrees-low m n b f q z lt l) ∙ gl m b f (init q) z (narrowed m n l))
-    (lt-or-ge (split n) m))
-    (λ e. bits-all n m b f q z e) w)
+-- ---- carrying
 
 module _ (H : List ℕ → List ℕ) where
   -- a first full subtree before others
@@ -253,8 +140,6 @@ module _ (H : List ℕ → List ℕ) where
     strings-high : split m ≤ x → inclusionStrings H x m h p ≡ string (last p) (inclusionRoot H (x - split m) (m - split m) h (init p)) ∷ inclusionStrings H (x - split m) (m - split m) h (init p)
     unfolding inclusionStrings inclusionStringsOf inclusionRoot
     strings-high l = let e = size-left m more in rw (shape-fork m more, le-ltb x (size (shape (split m))) (omega arith), e)
-
-  -- ---- carrying
 
   abbrev inner : ℕ → ℕ → List ℕ → List (List ℕ) → List (List ℕ)
   inner m x h p = take (aboveOf (shape m) x) (inclusionStrings H x m h p)
@@ -347,6 +232,7 @@ module _ (H : List ℕ → List ℕ) where
         let r = met n (omega arith) m x true h p f q xm (inl lt) in
         finds _ _ _ (r .1 .0 ∙ sym (r .1 .1)) (r .0);
     whole = λ m n x f q xm lt. met n (omega arith) m x true [] [] f q xm (inl lt) .1 .1;
+    own = own H;
     one-bits = λ m n f q z lt. bits n (omega arith) m true f q z (inl lt);
     yields = λ m n f q z le. together-yields (shape n) m true f q;
   }

@@ -1,3 +1,4 @@
+pub mod Computing
 pub mod Refusing
 pub mod Levels
 pub mod Pairing
@@ -11,5 +12,5 @@ pub mod Forwarding
 pub mod Carrying
 pub mod Honest
 pub mod Table
+pub mod Subtrees
 pub mod Levelling
-pub mod Computing

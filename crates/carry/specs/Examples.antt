@@ -94,6 +94,8 @@ table =
     collides few 0 5 7 12 0 0 (0 ∷ 2 ∷ 0 ∷ []) (3 ∷ 1 ∷ 2 ∷ 0 ∷ 2 ∷ []) 10 (0, 2) (2, 3) ∷
     collides few 3 6 7 8 0 0 (1 ∷ 2 ∷ []) (0 ∷ 1 ∷ 3 ∷ 2 ∷ []) 10 (1, 3) (3, 0) ∷
     collides few 2 4 7 8 2 2 (3 ∷ 0 ∷ 2 ∷ []) (0 ∷ 3 ∷ 1 ∷ 0 ∷ []) 10 (2, 0) (0, 1) ∷
+    carries few 2 4 7 8 1 1 (3 ∷ 0 ∷ 1 ∷ []) (0 ∷ 3 ∷ 0 ∷ 1 ∷ []) 10 (3 ∷ 2 ∷ 1 ∷ []) ∷
+    carries few 1 3 6 13 2 2 (3 ∷ 2 ∷ 3 ∷ []) (3 ∷ 3 ∷ 0 ∷ 2 ∷ []) 10 (3 ∷ 2 ∷ 1 ∷ 2 ∷ []) ∷
     carries few 0 4 5 9 3 1 (3 ∷ []) (0 ∷ 0 ∷ 0 ∷ 3 ∷ 3 ∷ []) 10 (0 ∷ 0 ∷ 3 ∷ 3 ∷ []) ∷
     -- comparing at place 1 of 4: at the top, below equal pairs, at both (also with just 130 bytes), nowhere
     differs constant 1 4 0 1 (2 ∷ 3 ∷ []) 1 (2 ∷ 4 ∷ []) 10 (0, 3) (0, 4) ∷

@@ -8,9 +8,9 @@ use mathlib.Core.List.{List, [], _∷_}
 use Prim.Native.Nat.{ℕ, suc, _+_, _-_, _≤_, _<_}
 use lib.Count.{ones}
 use lib.Dec.{leb, ltb, eqb}
-use lib.ListN.{length, take, getD}
+use lib.ListN.{length, take, drop, getD}
 use Rattle.tree.specs.Split.{Shape, one, fork, size, shape}
-use Rattle.tree.specs.Tree.{node}
+use Rattle.tree.specs.Tree.{node, rootOf, root, consistency}
 use Rattle.tree.specs.Yield.{init, last, inclusionRootOf, oldRoot}
 use Rattle.carry.specs.Strings.{string, Difference, alike, apart}
 use Rattle.carry.specs.Compare.{differ}
@@ -69,6 +69,12 @@ module _ (H : List ℕ → List ℕ) where
   togetherStrings (r ∷ []) = []
   togetherStrings (r ∷ (s ∷ l)) = string r (together (s ∷ l)) ∷ togetherStrings (s ∷ l)
 
+  -- the roots of the full subtrees of leaf hashes, by their own tree
+  unfoldable pub fullRootsOf : Shape → List (List ℕ) → List (List ℕ)
+  fullRootsOf one l = rootOf H one l ∷ []
+  fullRootsOf (fork a b) l =
+      cond (eqb (size a) (size b)) (rootOf H (fork a b) l ∷ []) (rootOf H a (take (size a) l) ∷ fullRootsOf b (drop (size a) l))
+
   -- what both proofs rebuild of the old tree of m leaves, from its root down to S
   abbrev pub inclusionLevels : ℕ → ℕ → List ℕ → List (List ℕ) → List (List ℕ)
   inclusionLevels m x h p = take (aboveOf (shape m) x) (inclusionStrings x m h p)
@@ -87,6 +93,9 @@ module _ (H : List ℕ → List ℕ) where
         Finds (inclusionLevels m x h p) (consistencyLevels m n x f q) (conflict H m n x h p f q)
     -- every level down to S is there
     pub whole : (m n x : ℕ) (f : List ℕ) (q : List (List ℕ)) → x < m → m < n → length (consistencyLevels m n x f q) ≡ aboveOf (shape m) x
+    -- a list's own consistency path splits its first m leaves into their full subtrees
+    pub own :
+        (l : List (List ℕ)) (m : ℕ) → 0 < m → m < length l → subtrees m (length l) (root H (take m l)) (consistency H m l) ≡ fullRootsOf (shape m) (take m l)
     -- one full subtree for each one-bit of m, and together they yield the old root
     pub one-bits : (m n : ℕ) (f : List ℕ) (q : List (List ℕ)) → 0 < m → m < n → length (subtrees m n f q) ≡ ones m
     pub yields : (m n : ℕ) (f : List ℕ) (q : List (List ℕ)) → 0 < m → m ≤ n → together (subtrees m n f q) ≡ oldRoot H m n true f q
