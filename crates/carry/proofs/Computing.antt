@@ -13,5 +13,5 @@ use Rattle.carry.specs.Compare as compare
 use Rattle.carry.specs.Examples.{Collisions}
 
 pub collisions : Collisions
-unfolding doubled split size shapeIn shape node inclusionCountOf inclusionCount subproofCountOf subproofCount consistencyCount init last inclusionRootOf inclusionRoot consistencyRootOf oldRoot newRoot firstNodes nodes joined same judged noPlace noSizes inclusionVerdict consistencyVerdict over topmost forward.pathAfter forward.pairAfter forward.unless forward.settled forward.conflictOf forward.conflict forward.forwardOf forward.forward forward.carry compare.pairAfter compare.unless compare.found compare.differOf compare.differ compare.compare
-collisions = ((refl, refl, refl), ((refl, refl, refl), ((refl, refl, refl), ((refl, refl, refl), ((refl, refl, refl), ((refl, refl, refl), ((refl, refl, refl), ((refl, refl, refl), ((refl, refl, refl), ((refl, refl, refl), ((refl, refl, refl), ((refl, refl, refl), ((refl, refl, refl), ((refl, refl, refl), ((refl, refl, refl), ((refl, refl, refl), ((refl, refl), ((refl, refl), ((refl, refl), ((refl, refl), ((refl, refl), ((refl, refl), ((refl, refl), ((refl, refl), ((refl, refl), tt)))))))))))))))))))))))))
+unfolding doubled split size shapeIn shape node inclusionCountOf inclusionCount subproofCountOf subproofCount consistencyCount init last inclusionRootOf inclusionRoot consistencyRootOf oldRoot newRoot firstNodes nodes joined same judged noPlace noSizes inclusionVerdict consistencyVerdict over topmost forward.report forward.pathAfter forward.pairAfter forward.unless forward.settled forward.conflictOf forward.conflict forward.forwardOf forward.forward forward.carry compare.report compare.pairAfter compare.unless compare.found compare.differOf compare.differ compare.compare
+collisions = ((refl, refl, refl, refl), ((refl, refl, refl, refl), ((refl, refl, refl, refl), ((refl, refl, refl, refl), ((refl, refl, refl, refl), ((refl, refl, refl, refl), ((refl, refl, refl, refl), ((refl, refl, refl, refl), ((refl, refl, refl, refl), ((refl, refl, refl, refl), ((refl, refl, refl, refl), ((refl, refl, refl, refl), ((refl, refl, refl, refl), ((refl, refl, refl, refl), ((refl, refl, refl, refl), ((refl, refl, refl, refl), ((refl, refl, refl), ((refl, refl, refl), ((refl, refl, refl), ((refl, refl, refl), ((refl, refl, refl), ((refl, refl, refl), ((refl, refl, refl), ((refl, refl, refl), ((refl, refl, refl), tt)))))))))))))))))))))))))

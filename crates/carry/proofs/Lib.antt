@@ -1,4 +1,5 @@
 pub mod Computing
+pub mod Enums
 pub mod Refusing
 pub mod Levels
 pub mod Pairing

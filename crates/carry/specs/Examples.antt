@@ -5,6 +5,7 @@ use mathlib.Core.Path.{_≡_}
 use mathlib.Core.List.{List, [], _∷_, _++_, map}
 use Prim.Native.Nat.{ℕ, _+_, _-_, _*_, _%_}
 use lib.ListN.{length, getD, replicate}
+use Rattle.sha256.specs.Told.{done}
 use Rattle.tree.specs.Joined.{joined}
 use Rattle.carry.specs.Strings.{string}
 use Rattle.carry.specs.Forward as forward
@@ -46,30 +47,34 @@ pub data Row : Type 0 where
   agrees : (List ℕ → List ℕ) → ℕ → ℕ → ℕ → ℕ → List ℕ → ℕ → Row
   differs : (List ℕ → List ℕ) → ℕ → ℕ → ℕ → ℕ → List ℕ → ℕ → List ℕ → ℕ → ℕ × ℕ → ℕ × ℕ → Row
 
-abbrev pub carrying : (List ℕ → List ℕ) → ℕ → ℕ → ℕ → ℕ → ℕ → ℕ → List ℕ → List ℕ → ℕ → forward.Forward
-carrying H leaf place m n old new path proof more =
+abbrev pub carryOf : (List ℕ → List ℕ) → ℕ → ℕ → ℕ → ℕ → ℕ → ℕ → List ℕ → List ℕ → ℕ → forward.Forward
+carryOf H leaf place m n old new path proof more =
     forward.carry H (hash leaf) place m n (hash old) (hash new) (hashes path) (hashes proof) (length out) (length (pair more))
 
-abbrev pub comparing : (List ℕ → List ℕ) → ℕ → ℕ → ℕ → ℕ → List ℕ → ℕ → List ℕ → ℕ → compare.Comparison
-comparing H place size root leaf₁ path₁ leaf₂ path₂ more =
+abbrev pub compareOf : (List ℕ → List ℕ) → ℕ → ℕ → ℕ → ℕ → List ℕ → ℕ → List ℕ → ℕ → compare.Comparison
+compareOf H place size root leaf₁ path₁ leaf₂ path₂ more =
     compare.compare H place size (hash root) (hash leaf₁) (hashes path₁) (hash leaf₂) (hashes path₂) (length (pair more))
 
--- what a row says: the answer, the path buffer and the pair buffer
+-- what a row says: the outcome, what it tells, the path buffer and the pair buffer
 abbrev pub Says : Row → Type 0
 Says (carries H leaf place m n old new path proof more w) =
-    (carrying H leaf place m n old new path proof more ≡ forward.carried (hashes w))
-    × (forward.pathAfter (carrying H leaf place m n old new path proof more) out ≡ hashes w ++ replicate (160 - length (hashes w)) 7)
-    × (forward.pairAfter (carrying H leaf place m n old new path proof more) (pair more) ≡ pair more)
+    (carryOf H leaf place m n old new path proof more ≡ forward.carried (hashes w))
+    × (forward.report (carryOf H leaf place m n old new path proof more) ≡ done (forward.ofPath (length (hashes w))))
+    × (forward.pathAfter (carryOf H leaf place m n old new path proof more) out ≡ hashes w ++ replicate (160 - length (hashes w)) 7)
+    × (forward.pairAfter (carryOf H leaf place m n old new path proof more) (pair more) ≡ pair more)
 Says (collides H leaf place m n old new path proof more s t) =
-    (carrying H leaf place m n old new path proof more ≡ forward.collision (child s) (child t))
-    × (forward.pathAfter (carrying H leaf place m n old new path proof more) out ≡ out)
-    × (forward.pairAfter (carrying H leaf place m n old new path proof more) (pair more) ≡ written s t more)
+    (carryOf H leaf place m n old new path proof more ≡ forward.collision (child s) (child t))
+    × (forward.report (carryOf H leaf place m n old new path proof more) ≡ done forward.ofStrings)
+    × (forward.pathAfter (carryOf H leaf place m n old new path proof more) out ≡ out)
+    × (forward.pairAfter (carryOf H leaf place m n old new path proof more) (pair more) ≡ written s t more)
 Says (agrees H place size root leaf path more) =
-    (comparing H place size root leaf path leaf path more ≡ compare.equal)
-    × (compare.pairAfter (comparing H place size root leaf path leaf path more) (pair more) ≡ pair more)
+    (compareOf H place size root leaf path leaf path more ≡ compare.equal)
+    × (compare.report (compareOf H place size root leaf path leaf path more) ≡ done compare.same)
+    × (compare.pairAfter (compareOf H place size root leaf path leaf path more) (pair more) ≡ pair more)
 Says (differs H place size root leaf₁ path₁ leaf₂ path₂ more s t) =
-    (comparing H place size root leaf₁ path₁ leaf₂ path₂ more ≡ compare.collision (child s) (child t))
-    × (compare.pairAfter (comparing H place size root leaf₁ path₁ leaf₂ path₂ more) (pair more) ≡ written s t more)
+    (compareOf H place size root leaf₁ path₁ leaf₂ path₂ more ≡ compare.collision (child s) (child t))
+    × (compare.report (compareOf H place size root leaf₁ path₁ leaf₂ path₂ more) ≡ done compare.ofStrings)
+    × (compare.pairAfter (compareOf H place size root leaf₁ path₁ leaf₂ path₂ more) (pair more) ≡ written s t more)
 
 abbrev pub table : List Row
 table =
