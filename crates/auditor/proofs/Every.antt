@@ -12,6 +12,7 @@ use Rattle.auditor.specs.declared.dispute.Settled.{Settled}
 use Rattle.auditor.specs.Held.{none}
 use Rattle.auditor.specs.Heads.{lastSize, lastRoot, joinedHeads}
 use Rattle.auditor.specs.Calls.{Call, offer, ask, Entry, answered, called, answers, heads}
+use Rattle.auditor.specs.Dispute.{settling}
 use Rattle.auditor.specs.Demand.{Tells, Settles}
 use Rattle.auditor.proofs.Settling.{whatever-given, demand3}
 use Rattle.auditor.proofs.empty.Reads as empty-reads
@@ -50,7 +51,7 @@ listed r es (asks κs place page path o p rest) =
 pub tells :
     (κs : Lfts 7) (place size : ℕ) (page₁ path₁ root between page₂ path₂ pair pair′ : RefT (List ℕ)) (d : Settled) →
     dispute-reads.Learnt κs (page₁, (place, (path₁, (size, (root, (between, (page₂, (path₂, (pair, tt))))))))) d (page₁, (place, (path₁, (size, (root, (between, (page₂, (path₂, (pair′, tt))))))))) →
-    Tells (page₁ .now) (page₂ .now) d (pair′ .now)
+    Tells (page₁ .now) (page₂ .now) (settling d) (pair′ .now)
 tells κs place size page₁ path₁ root between page₂ path₂ pair pair′ d p =
     rw (p .0, p .1) (whatever-given (page₁ .now) place (path₁ .now) size (root .now) (between .now) (page₂ .now) (path₂ .now) (pair .now))
 
@@ -62,7 +63,7 @@ pub every :
     (κs : Lfts 7) (size : ℕ) (root joined pair pair′ : RefT (List ℕ)) (d : Settled) →
     size ≡ lastSize 0 (heads before) → root .now ≡ lastRoot [] (heads before) → joined .now ≡ joinedHeads (heads between) → 130 ≤ length (pair .now) →
     dispute-reads.Learnt κs (page₁, (place, (path₁, (size, (root, (joined, (page₂, (path₂, (pair, tt))))))))) d (page₁, (place, (path₁, (size, (root, (joined, (page₂, (path₂, (pair′, tt))))))))) →
-    Settles (page₁ .now) (page₂ .now) d (pair′ .now)
+    Settles (page₁ .now) (page₂ .now) (settling d) (pair′ .now)
 every start s before between rest place page₁ path₁ page₂ path₂ run κs size root joined pair pair′ d es er ej long p =
     let w = listed start _ run in
     let e = ap (λ (r : Record). answers r (w .0)) (sym s) ∙ w .1 in

@@ -1,3 +1,5 @@
+pub mod Computing
+pub mod Enums
 pub mod Refusing
 pub mod Levels
 pub mod Pairing
@@ -11,3 +13,5 @@ pub mod Forwarding
 pub mod Carrying
 pub mod Honest
 pub mod Table
+pub mod Subtrees
+pub mod Levelling
