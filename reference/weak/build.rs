@@ -15,6 +15,9 @@ const COMPARED: [&str; 3] = ["tree", "carry", "auditor"];
 /// Written here: a weak hash, and the kit's comparison of bytes.
 const GIVEN: [&str; 2] = ["hash", "check"];
 
+/// Not in every state of the repository: compared, and edited, where it is there.
+const JOURNAL: &str = "auditor/src/journal.rt";
+
 fn main() {
     println!("cargo:rustc-check-cfg=cfg(journal)");
     if let Err(what) = write() {
@@ -39,7 +42,7 @@ fn write() -> Result<(), String> {
     let uses = uses(&read(&root.join("crates.txt"))?)?;
     let order = order(&uses)?;
     let crates = root.join("crates");
-    if crates.join("auditor/src/journal.rt").exists() {
+    if crates.join(JOURNAL).exists() {
         println!("cargo:rustc-cfg=journal");
     }
 
@@ -161,6 +164,7 @@ fn wrong_programs(folder: &Path, crates: &Path) -> Result<Vec<Wrong>, String> {
     let mut paths: Vec<PathBuf> =
         fs::read_dir(folder).map_err(|error| format!("{}: {error}", folder.display()))?.map(|entry| entry.unwrap().path()).collect();
     paths.sort();
+    let is_without_journal = !crates.join(JOURNAL).exists();
     let mut all = Vec::new();
     for path in paths {
         let name = path.file_stem().unwrap().to_string_lossy().to_string();
@@ -169,6 +173,7 @@ fn wrong_programs(folder: &Path, crates: &Path) -> Result<Vec<Wrong>, String> {
         let (mut file, mut old) = (PathBuf::new(), None);
         for line in read(&path)?.lines().filter(|line| !line.starts_with('#') && !line.is_empty()) {
             match line.split_once(": ").ok_or(bad("a line without its word"))? {
+                ("file", JOURNAL) if is_without_journal => break,
                 ("file", named) => {
                     wrong.krate = named.split('/').next().unwrap().to_string();
                     file = crates.join(named);
@@ -185,6 +190,9 @@ fn wrong_programs(folder: &Path, crates: &Path) -> Result<Vec<Wrong>, String> {
                 }
                 (word, _) => return Err(bad(&format!("unknown word `{word}`"))),
             }
+        }
+        if wrong.files.is_empty() && is_without_journal {
+            continue;
         }
         if wrong.files.is_empty() || old.is_some() {
             return Err(bad("no change"));

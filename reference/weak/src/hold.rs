@@ -100,7 +100,9 @@ impl<'a> Hold<'a> {
         self.failed += 1;
         if self.shown.len() < 3 {
             let found = found.map_or("a panic".to_string(), |found| format!("{found:?}"));
-            self.shown.push(format!("{entry} of {of:?}\n  expected {expected:?}\n  found    {found}"));
+            let short = |text: String| if text.len() > 2000 { format!("{} ..", &text[..2000]) } else { text };
+            let [of, expected, found] = [format!("{of:?}"), format!("{expected:?}"), found].map(short);
+            self.shown.push(format!("{entry} of {of}\n  expected {expected}\n  found    {found}"));
         }
     }
 
@@ -286,6 +288,7 @@ impl<'a> Hold<'a> {
         for what in Self::ends(one, answer, pair.len()) {
             self.kind("dispute", what);
         }
+        // Nobody reads a page of 32 MB.
         let short = |bytes: &[u8]| if bytes.len() > 4000 { format!("{} bytes", bytes.len()) } else { format!("{bytes:?}") };
         let of = (
             &one.first.place,
@@ -477,8 +480,8 @@ impl<'a> Hold<'a> {
 
 #[cfg(journal)]
 impl Hold<'_> {
-    /// A head joined on behind what is used: 5 for its root's length or a count that two bytes do not
-    /// hold, 10, then 9. Both sides' journal after it.
+    /// A head joined on behind what is used: 5 for its root's length or a path over 65,535 nodes, 10,
+    /// then 9. The answer, and the journal after it.
     pub fn append(&mut self, journal: &[u8], used: usize, size: u64, root: &[u8], path: &[u8]) -> (Wrote, Vec<u8>) {
         let mut after = journal.to_vec();
         let answer = appended(&mut after, used, size, root, path);
@@ -499,7 +502,7 @@ impl Hold<'_> {
 
 #[cfg(journal)]
 fn appended(journal: &mut [u8], used: usize, size: u64, root: &[u8], path: &[u8]) -> Wrote {
-    if root.len() != 32 || path.len() / 32 > 65_535 {
+    if root.len() != 32 || path.len() > 32 * 65_535 {
         return Err(5);
     }
     if path.len() % 32 != 0 {

@@ -164,7 +164,7 @@ fn journal_round(hold: &mut Hold, random: &mut Random) {
     let used = random.below(100) as usize;
     let journal = some_out(used + 42 + path.len(), random);
     let used = if random.one_in(20) { usize::MAX - random.below(50) as usize } else { used };
-    hold.append(&journal, used, random.draw() >> random.below(64), &root, &path);
+    let _ = hold.append(&journal, used, random.draw() >> random.below(64), &root, &path);
 }
 
 /// A record that no list of calls returns, with an offer and a page.
@@ -214,7 +214,7 @@ fn long_pages(hold: &mut Hold, random: &mut Random) {
     }
     #[cfg(journal)]
     for length in [32 * 65_535, 32 * 65_535 + 1, 32 * 65_536, 32 * 65_536 + 1] {
-        hold.append(&vec![1; 3_000_000], 5, 1 << 40, &[2; 32], &vec![3; length]);
+        let _ = hold.append(&vec![1; 3_000_000], 5, 1 << 40, &[2; 32], &vec![3; length]);
     }
 }
 
@@ -279,7 +279,7 @@ fn translation(tally: &mut Tally) {
 fn main() {
     let numbers: Vec<Option<u64>> = std::env::args().skip(1).map(|word| word.parse().ok()).collect();
     let (seed, count) = match numbers[..] {
-        [Some(seed)] => (seed, 20_000),
+        [Some(seed)] => (seed, 10_000),
         [Some(seed), Some(count)] => (seed, count),
         _ => {
             eprintln!("weak SEED [COUNT]");
@@ -305,7 +305,9 @@ fn main() {
 
     for (name, code) in &variants::CODES[1..] {
         let hold = rounds(*code, seed, count, true);
-        println!("wrong: {name}: {} calls", hold.calls);
+        if let Some((entry, _)) = hold.shown.first().and_then(|one| one.split_once(" of ")) {
+            println!("found by {entry}, in {} calls: {name}", hold.calls);
+        }
         tally.count(hold.failed > 0, || format!("not found: {name}"));
     }
     println!("{} passed, {} failed", tally.passed, tally.failed);

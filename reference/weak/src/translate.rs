@@ -59,7 +59,27 @@ impl Crate<'_> {
         reader.items().map_err(|what| reader.place(file, what))?;
         let out = reader.out;
         done.files += 1;
-        Ok(out)
+        match self.lost(&text, &out) {
+            Some(line) => Err(format!("{}: this line was lost: {line}", file.display())),
+            None => Ok(out),
+        }
+    }
+
+    /// A line of code that does not come out, in the order of the lines: found by the lines alone.
+    fn lost<'a>(&self, text: &'a str, out: &str) -> Option<&'a str> {
+        let mut at = 0;
+        text.lines().find(|line| {
+            let code = line.split("//").next().unwrap().trim();
+            if ["ghost use ", "requires ", "ensures "].iter().any(|word| code.starts_with(word)) {
+                return false;
+            }
+            let is_module = ["mod ", "pub mod "].iter().any(|word| code.starts_with(word));
+            let code = if is_module { code.trim_end_matches(';') } else { code };
+            let code = code.replace("crate::", &format!("{}::", self.root)).replace("std::num::", "crate::given::num::");
+            let found = out[at..].find(&code);
+            at += found.map_or(0, |from| from + code.len());
+            found.is_none()
+        })
     }
 }
 
