@@ -1,0 +1,148 @@
+// Included in each variant: its entries, in the reference's types. Names of crates are the variant's own.
+
+pub struct Entries;
+
+fn digest(bytes: &[u8; 32]) -> hash::Digest {
+    hash::Digest { bytes: *bytes }
+}
+
+fn wrote(built: tree::build::Built) -> crate::code::Wrote {
+    match built {
+        tree::build::Built::Wrote(length) => Ok(length),
+        tree::build::Built::Refused(number) => Err(number.into()),
+    }
+}
+
+fn record(of: &reference::auditor::Stored) -> auditor::Record {
+    auditor::Record { held: of.held, id: of.id, idlen: of.id_length as usize, timestamp: of.timestamp, size: of.size, root: of.root }
+}
+
+fn stored(of: auditor::Record) -> reference::auditor::Stored {
+    reference::auditor::Stored {
+        held: of.held,
+        id: of.id,
+        id_length: of.idlen as u64,
+        timestamp: of.timestamp,
+        size: of.size,
+        root: of.root,
+    }
+}
+
+fn answered(of: auditor::Answered) -> (u64, reference::auditor::Stored) {
+    (of.number.into(), stored(of.after))
+}
+
+impl crate::code::Code for Entries {
+    fn cut(&self, n: u64) -> u64 {
+        tree::split::cut(n)
+    }
+
+    fn inclusion_count(&self, place: u64, size: u64) -> usize {
+        tree::count::inclusion_count(place, size)
+    }
+
+    fn subproof_count(&self, first: u64, second: u64, known: bool) -> usize {
+        tree::count::subproof_count(first, second, known)
+    }
+
+    fn node_at(&self, joined: &[u8], at: usize) -> [u8; 32] {
+        tree::nodes::node_at(joined, at).bytes
+    }
+
+    fn copy(&self, from: &[u8], start: usize, length: usize, to: &mut [u8], at: usize) {
+        tree::nodes::copy(from, start, length, to, at)
+    }
+
+    fn equals(&self, hash: &[u8; 32], bytes: &[u8]) -> bool {
+        tree::nodes::equals(digest(hash), bytes)
+    }
+
+    fn yielded_root(&self, leaf: &[u8; 32], place: u64, size: u64, path: &[u8]) -> [u8; 32] {
+        tree::yields::yielded_root(digest(leaf), place, size, path).bytes
+    }
+
+    fn yielded_roots(&self, known_root: &[u8; 32], first: u64, second: u64, known: bool, path: &[u8]) -> ([u8; 32], [u8; 32]) {
+        let roots = tree::yields::yielded_roots(digest(known_root), first, second, known, path);
+        (roots.old.bytes, roots.new.bytes)
+    }
+
+    fn root_of(&self, leaves: &[u8]) -> (u64, [u8; 32]) {
+        let hashed = tree::build::root_of(leaves);
+        (hashed.number.into(), hashed.digest.bytes)
+    }
+
+    fn root(&self, leaves: &[u8], out: &mut [u8]) -> crate::code::Wrote {
+        wrote(tree::build::root(leaves, out))
+    }
+
+    fn inclusion_path(&self, leaves: &[u8], place: u64, out: &mut [u8]) -> crate::code::Wrote {
+        wrote(tree::build::inclusion_path(leaves, place, out))
+    }
+
+    fn consistency_path(&self, leaves: &[u8], first: u64, out: &mut [u8]) -> crate::code::Wrote {
+        wrote(tree::build::consistency_path(leaves, first, out))
+    }
+
+    fn inclusion_verdict(&self, leaf: &[u8], place: u64, size: u64, root: &[u8], path: &[u8]) -> u64 {
+        tree::verdict::inclusion_verdict(leaf, place, size, root, path).into()
+    }
+
+    fn consistency_verdict(&self, first: u64, second: u64, old: &[u8], new: &[u8], path: &[u8]) -> u64 {
+        tree::verdict::consistency_verdict(first, second, old, new, path).into()
+    }
+
+    fn carry(&self, one: &crate::code::Step, out: &mut [u8], pair: &mut [u8]) -> Result<reference::carry::Carried, u64> {
+        use carry::forward::Carried;
+        match carry::forward::carry(
+            &one.leaf, one.place, one.first, one.second, &one.old, &one.new, &one.path, &one.proof, out, pair,
+        ) {
+            Carried::Path(length) => Ok(reference::carry::Carried::Path(length)),
+            Carried::Collision => Ok(reference::carry::Carried::Collision),
+            Carried::Refused(number) => Err(number.into()),
+        }
+    }
+
+    fn compare(&self, one: &crate::code::Two, pair: &mut [u8]) -> Result<reference::carry::Compared, u64> {
+        use carry::compare::Compared;
+        let ([leaf1, leaf2], [path1, path2]) = (&one.leaves, &one.paths);
+        match carry::compare::compare(one.place, one.size, &one.root, leaf1, path1, leaf2, path2, pair) {
+            Compared::Same => Ok(reference::carry::Compared::Same),
+            Compared::Collision => Ok(reference::carry::Compared::Collision),
+            Compared::Refused(number) => Err(number.into()),
+        }
+    }
+
+    fn empty(&self) -> reference::auditor::Stored {
+        stored(auditor::empty())
+    }
+
+    fn offer(&self, before: &reference::auditor::Stored, one: &reference::auditor::Offer) -> (u64, reference::auditor::Stored) {
+        answered(auditor::head::offer(record(before), &one.log_id, one.timestamp, one.size, &one.root, &one.path))
+    }
+
+    fn ask(&self, before: &reference::auditor::Stored, one: &reference::auditor::PageCall) -> (u64, reference::auditor::Stored) {
+        answered(auditor::page::ask(record(before), one.place, &one.page, &one.path))
+    }
+
+    fn dispute(&self, one: &reference::auditor::Dispute, pair: &mut [u8]) -> reference::auditor::Settled {
+        use auditor::dispute::Settled;
+        let first = &one.first;
+        match auditor::dispute::dispute(
+            &first.page, first.place, &first.path, one.size, &one.root, &one.heads, &one.second_page, &one.second_path, pair,
+        ) {
+            Settled::Same => reference::auditor::Settled::Same,
+            Settled::Nodes => reference::auditor::Settled::Nodes,
+            Settled::Pages => reference::auditor::Settled::Pages,
+            Settled::Refused(number) => reference::auditor::Settled::Refused(number.into()),
+        }
+    }
+
+    #[cfg(journal)]
+    fn append(&self, journal: &mut [u8], used: usize, size: u64, root: &[u8], path: &[u8]) -> crate::code::Wrote {
+        use auditor::journal::Appended;
+        match auditor::journal::append(journal, used, size, root, path) {
+            Appended::Used(used) => Ok(used),
+            Appended::Refused(number) => Err(number.into()),
+        }
+    }
+}

@@ -1,0 +1,315 @@
+//! Proofs of chosen bytes that a weak hash accepts, mostly. They agree on some levels and differ on others.
+
+use crate::code::{Step, Two};
+use crate::given::weak;
+use reference::auditor::{join_head, Dispute, PageCall};
+use reference::carry::{carry, consistency_places, full_subtree, inclusion_places, Carried, Known, PAIR};
+use reference::random::Random;
+use reference::servers::spoil;
+use reference::tree::{self, leaf_hash, Hash, MOST_LEAVES};
+use reference::verdict::Inclusion;
+use reference::yields;
+
+/// A node need not be a value of the hash.
+pub fn any_node(random: &mut Random) -> Hash {
+    if random.one_in(2) {
+        return random.hash();
+    }
+    weak(&random.bytes(2))
+}
+
+pub fn any_nodes(count: usize, random: &mut Random) -> Vec<Hash> {
+    (0..count).map(|_| any_node(random)).collect()
+}
+
+/// Mostly a small tree, at times one of any depth.
+fn some_size(random: &mut Random) -> u64 {
+    match random.below(12) {
+        0..=9 => random.between(1, 40),
+        10 => {
+            let bits = random.between(6, 32);
+            random.between(1, 1 << bits)
+        }
+        _ => MOST_LEAVES - random.below(3),
+    }
+}
+
+fn some_place(size: u64, random: &mut Random) -> u64 {
+    match random.below(8) {
+        0 => 0,
+        1 => size - 1,
+        // In one of the last full subtrees.
+        2 | 3 => size - 1 - random.below(size.min(8)),
+        _ => random.below(size),
+    }
+}
+
+/// How many of a proof's nodes are changed, at most.
+fn some_changes(random: &mut Random) -> u64 {
+    *random.pick(&[1, 1, 1, 2, 2, 3, 40])
+}
+
+/// One to `most` nodes in the places of others.
+fn change(nodes: &mut [Hash], most: u64, random: &mut Random) {
+    if !nodes.is_empty() {
+        for _ in 0..most {
+            let at = random.below(nodes.len() as u64) as usize;
+            nodes[at] = any_node(random);
+        }
+    }
+}
+
+/// How often a forger tries.
+const TRIES: usize = 80;
+
+/// Another leaf hash and path of one root, if one is found.
+fn other_proof(leaf: &Hash, path: &[Hash], place: u64, size: u64, root: &Hash, random: &mut Random) -> Option<(Hash, Vec<Hash>)> {
+    let changes = some_changes(random);
+    let whole = [&[*leaf], path].concat();
+    (0..TRIES).find_map(|_| {
+        let mut nodes = whole.clone();
+        change(&mut nodes, changes, random);
+        let path = nodes.split_off(1);
+        (yields::inclusion(weak, &nodes[0], place, size, &path)? == *root).then_some((nodes[0], path))
+    })
+}
+
+pub fn two(random: &mut Random) -> Two {
+    let size = some_size(random);
+    let place = some_place(size, random);
+    let (leaf, path) = (any_node(random), any_nodes(yields::inclusion_count(place, size), random));
+    let root = yields::inclusion(weak, &leaf, place, size, &path).unwrap();
+    let found = if random.one_in(6) { None } else { other_proof(&leaf, &path, place, size, &root, random) };
+    let (leaf_two, path_two) = found.unwrap_or((leaf, path.clone()));
+    Two { place, size, root: root.to_vec(), leaves: [leaf, leaf_two].map(|leaf| leaf.to_vec()), paths: [path.concat(), path_two.concat()] }
+}
+
+/// A first size, mostly of several one-bits: the way to the full subtree is long.
+fn some_first(second: u64, random: &mut Random) -> u64 {
+    match random.below(8) {
+        0 => second,
+        1 => 1 << random.below(second.ilog2() as u64 + 1),
+        2..=4 => (0..4).map(|_| random.between(1, second)).max_by_key(|size| size.count_ones()).unwrap(),
+        _ => random.between(1, second),
+    }
+}
+
+pub fn step(random: &mut Random) -> Step {
+    let second = some_size(random);
+    let first = some_first(second, random);
+    let place = some_place(first, random);
+    let inclusion = |leaf: &Hash, path: &[Hash]| yields::inclusion(weak, leaf, place, first, path).unwrap();
+    let (mut leaf, mut path) = (any_node(random), any_nodes(yields::inclusion_count(place, first), random));
+    let nodes = any_nodes(yields::consistency_count(first, second), random);
+    let (old, new);
+    if first.is_power_of_two() || first == second {
+        // The old root is any root.
+        old = inclusion(&leaf, &path);
+        new = if first == second { old } else { yields::consistency(weak, first, second, &old, &nodes).unwrap().1 };
+    } else {
+        (old, new) = yields::consistency(weak, first, second, &[0; 32], &nodes).unwrap();
+        let by_consistency = Known::new(weak, consistency_places(first, 0..second, true), &nodes);
+        let (subtree, places) = (full_subtree(place, first), inclusion_places(place, 0..first));
+        let below = places.iter().filter(|one| subtree.start <= one.start && one.end <= subtree.end).count();
+        let above: Vec<Hash> = places[below..].iter().map(|one| by_consistency.hash(one)).collect();
+        let changes = if random.one_in(3) { 0 } else { some_changes(random) };
+        // Half of the proofs agree on S at first.
+        let agreed = by_consistency.hash(&subtree);
+        let in_subtree = |leaf: &Hash, path: &[Hash]| {
+            let (place, size) = (place - subtree.start, subtree.end - subtree.start);
+            yields::inclusion(weak, leaf, place, size, path).unwrap()
+        };
+        let agrees = random.one_in(2)
+            && (0..TRIES).any(|_| {
+                (leaf, path) = (any_node(random), any_nodes(below, random));
+                if below == 0 {
+                    leaf = agreed;
+                }
+                in_subtree(&leaf, &path) == agreed
+            });
+        for _ in 0..TRIES {
+            if !agrees {
+                (leaf, path) = (any_node(random), any_nodes(below, random));
+            }
+            path.truncate(below);
+            path.extend(&above);
+            change(&mut path[below..], changes, random);
+            if inclusion(&leaf, &path) == old {
+                break;
+            }
+        }
+    }
+    let [leaf, old, new] = [leaf, old, new].map(|hash| hash.to_vec());
+    Step { leaf, place, first, second, old, new, path: path.concat(), proof: nodes.concat() }
+}
+
+fn some_page(random: &mut Random) -> Vec<u8> {
+    let length = random.below(4) as usize;
+    random.bytes(length)
+}
+
+/// The nodes of a consistency path from a root, and the root that they yield; not always accepted.
+fn forged_head(first: u64, second: u64, root: &Hash, honest: &[Hash], random: &mut Random) -> (Vec<Hash>, Hash) {
+    if first == second {
+        return (Vec::new(), *root);
+    }
+    let changes = some_changes(random);
+    let mut forged = (Vec::new(), *root);
+    for _ in 0..TRIES {
+        let mut nodes = honest.to_vec();
+        change(&mut nodes, changes, random);
+        let (old, new) = yields::consistency(weak, first, second, root, &nodes).unwrap();
+        forged = (nodes, new);
+        if old == *root {
+            break;
+        }
+    }
+    forged
+}
+
+/// The path of the first page under the last head, where no head is in conflict with it.
+fn carried(one: &Dispute, heads: &[(u64, Hash, Vec<Hash>)]) -> Option<Vec<u8>> {
+    let leaf = leaf_hash(weak, &one.first.page);
+    let (mut size, mut root, mut path) = (one.size, one.root.clone(), one.first.path.clone());
+    for (new_size, new_root, nodes) in heads {
+        let old = Inclusion { leaf: &leaf, place: one.first.place, size, root: &root, path: &path };
+        let mut lent = [0; 1024];
+        let Ok(Carried::Path(length)) = carry(weak, &old, *new_size, new_root, &nodes.concat(), &mut lent, &mut [0; PAIR]) else {
+            return None;
+        };
+        (size, root, path) = (*new_size, new_root.to_vec(), lent[..length].to_vec());
+    }
+    Some(path)
+}
+
+/// A list of leaves, heads of which those from one on are forged, and a second page that is the
+/// same, is another of one leaf hash, or has another proof.
+pub fn dispute(random: &mut Random) -> Dispute {
+    let count = random.between(1, 40);
+    let mut sizes: Vec<u64> = (0..=random.below(6)).map(|_| random.between(1, count)).collect();
+    sizes.sort();
+    let place = some_place(sizes[0], random);
+    let page = some_page(random);
+    let mut leaves = any_nodes(count as usize, random);
+    leaves[place as usize] = leaf_hash(weak, &page);
+    let list = |size: u64| &leaves[..size as usize];
+    let path = tree::path(weak, place as usize, list(sizes[0]));
+    let mut root = tree::root(weak, list(sizes[0]));
+
+    let forged_from = random.below(2 * sizes.len() as u64) as usize;
+    let mut heads = Vec::new();
+    for at in 1..sizes.len() {
+        let (first, second) = (sizes[at - 1], sizes[at]);
+        let mut nodes = tree::consistency_path(weak, first as usize, list(second));
+        if at < forged_from {
+            root = tree::root(weak, list(second));
+        } else {
+            (nodes, root) = forged_head(first, second, &root, &nodes, random);
+        }
+        heads.push((second, root, nodes));
+    }
+    let mut joined = Vec::new();
+    heads.iter().for_each(|(size, root, nodes)| join_head(*size, root, &nodes.concat(), &mut joined));
+    let first = PageCall { place, page: page.clone(), path: path.concat() };
+    let root_one = tree::root(weak, list(sizes[0])).to_vec();
+    let mut one = Dispute { first, size: sizes[0], root: root_one, heads: joined, second_page: page, second_path: path.concat() };
+    one.second_path = carried(&one, &heads).unwrap_or(one.second_path);
+    second_page(&mut one, *sizes.last().unwrap(), &root, random);
+    one
+}
+
+fn second_page(one: &mut Dispute, size: u64, root: &Hash, random: &mut Random) {
+    let leaf = leaf_hash(weak, &one.first.page);
+    match random.below(4) {
+        0 => (),
+        1 => {
+            let other = (0..TRIES).map(|_| some_page(random)).find(|page| leaf_hash(weak, page) == leaf && *page != one.first.page);
+            one.second_page = other.unwrap_or_default();
+        }
+        _ => {
+            let path = tree::hashes(&one.second_path).unwrap();
+            let changes = some_changes(random);
+            for _ in 0..TRIES {
+                let mut nodes = path.clone();
+                if !random.one_in(3) {
+                    change(&mut nodes, changes, random);
+                }
+                one.second_page = if random.one_in(3) { one.first.page.clone() } else { some_page(random) };
+                one.second_path = nodes.concat();
+                let leaf = leaf_hash(weak, &one.second_page);
+                if yields::inclusion(weak, &leaf, one.first.place, size, &nodes) == Some(*root) {
+                    break;
+                }
+            }
+        }
+    }
+}
+
+// Faults, one or two at once: a length, a number, a byte.
+
+fn some_number(near: u64, random: &mut Random) -> u64 {
+    match random.below(5) {
+        0 => near.wrapping_add(1),
+        1 => near.wrapping_sub(1),
+        2 => *random.pick(&[0, 1, MOST_LEAVES, MOST_LEAVES + 1, u64::MAX]),
+        _ => random.below(45),
+    }
+}
+
+/// Bytes gone or more, and so that a hash has another length and a path another count.
+fn fault(bytes: &mut Vec<u8>, random: &mut Random) {
+    for _ in 0..random.between(1, 2) {
+        spoil(bytes, random);
+    }
+}
+
+pub fn fault_step(mut one: Step, random: &mut Random) -> Step {
+    for _ in 0..random.between(1, 2) {
+        match random.below(8) {
+            0 => one.place = some_number(one.first, random),
+            1 => one.first = some_number(one.second, random),
+            2 => one.second = some_number(one.first, random),
+            3 => fault(&mut one.leaf, random),
+            4 => fault(&mut one.old, random),
+            5 => fault(&mut one.new, random),
+            6 => fault(&mut one.path, random),
+            _ => fault(&mut one.proof, random),
+        }
+    }
+    one
+}
+
+pub fn fault_two(mut one: Two, random: &mut Random) -> Two {
+    for _ in 0..random.between(1, 2) {
+        match random.below(7) {
+            0 => one.place = some_number(one.size, random),
+            1 => one.size = some_number(one.place, random),
+            2 => fault(&mut one.root, random),
+            which @ 3..=4 => fault(&mut one.leaves[which as usize - 3], random),
+            which => fault(&mut one.paths[which as usize - 5], random),
+        }
+    }
+    one
+}
+
+pub fn fault_dispute(mut one: Dispute, random: &mut Random) -> Dispute {
+    for _ in 0..random.between(1, 2) {
+        match random.below(10) {
+            0 => one.first.place = some_number(one.size, random),
+            1 => one.size = some_number(one.first.place, random),
+            2 => fault(&mut one.root, random),
+            3 => fault(&mut one.first.path, random),
+            4 => fault(&mut one.second_path, random),
+            5 => fault(&mut one.first.page, random),
+            6 => fault(&mut one.second_page, random),
+            7 => fault(&mut one.heads, random),
+            8 if one.heads.len() >= 42 => {
+                // The count of nodes and the size of the first head.
+                let at = *random.pick(&[41, 41, 7]);
+                one.heads[at] = one.heads[at].wrapping_add(random.below(4) as u8).wrapping_sub(2);
+            }
+            _ => one.heads.truncate(random.below(one.heads.len() as u64 + 1) as usize),
+        }
+    }
+    one
+}

@@ -1,0 +1,315 @@
+//! weak SEED [COUNT]: the text of tree, carry and auditor, as Rust over a hash of few values, held
+//! against the reference on COUNT rounds of forged proofs. Each kind of collision and of refusal
+//! must come up, each wrong edit must be found, and the translation must refuse what it does not
+//! know. The last line is `N passed, M failed`; the status is not 0 where M is above 0.
+
+mod code;
+mod forge;
+mod given;
+mod hold;
+mod texts;
+/// The build's, tried here on texts.
+#[allow(dead_code)]
+mod translate;
+mod variants {
+    include!(concat!(env!("OUT_DIR"), "/variants.rs"));
+}
+
+use code::{Code, COMPARED};
+use hold::Hold;
+use reference::auditor::{disputes, Call, Dispute, Offer, PageCall, Stored};
+use reference::carry::PAIR;
+use reference::item::LONGEST_ITEM;
+use reference::random::Random;
+use reference::servers::{spoil, Server, KINDS};
+use reference::yields;
+use std::path::Path;
+
+/// How many bits of the hash are kept, in turn: one value, 2, 4, 8, 16, 64.
+const BITS: [u32; 6] = [0, 1, 2, 3, 4, 6];
+
+/// What must come up in every run.
+const WANTED: &str = include_str!("../wanted.txt");
+
+fn some_pair(random: &mut Random) -> Vec<u8> {
+    let length = match random.below(10) {
+        0 => PAIR - 1,
+        1 => random.below(PAIR as u64) as usize,
+        2..=5 => PAIR,
+        _ => PAIR + random.between(1, 80) as usize,
+    };
+    random.bytes(length)
+}
+
+/// A buffer for so many bytes: exact, longer, a byte or a node short, or of any length.
+fn some_out(needed: usize, random: &mut Random) -> Vec<u8> {
+    let length = match random.below(10) {
+        0 => needed.saturating_sub(1),
+        1 => needed.saturating_sub(32),
+        2 => random.below(needed as u64 + 1) as usize,
+        3..=5 => needed,
+        _ => needed + random.between(1, 80) as usize,
+    };
+    random.bytes(length)
+}
+
+fn carry_round(hold: &mut Hold, random: &mut Random) {
+    let mut one = forge::step(random);
+    if random.one_in(5) {
+        one = forge::fault_step(one, random);
+    }
+    let needed = if one.place < one.second && one.second <= 1 << 32 { 32 * yields::inclusion_count(one.place, one.second) } else { 64 };
+    hold.carry(&one, &some_out(needed, random), &some_pair(random));
+    hold.inclusion(&one.leaf, one.place, one.first, &one.old, &one.path);
+    hold.consistency(one.first, one.second, &one.old, &one.new, &one.proof);
+}
+
+fn compare_round(hold: &mut Hold, random: &mut Random) {
+    let mut one = forge::two(random);
+    if random.one_in(5) {
+        one = forge::fault_two(one, random);
+    }
+    hold.compare(&one, &some_pair(random));
+    hold.inclusion(&one.leaves[1], one.place, one.size, &one.root, &one.paths[1]);
+}
+
+fn dispute_round(hold: &mut Hold, random: &mut Random) {
+    let mut one = forge::dispute(random);
+    if random.one_in(4) {
+        one = forge::fault_dispute(one, random);
+    }
+    hold.dispute(&one, &some_pair(random));
+}
+
+fn tree_round(hold: &mut Hold, random: &mut Random) {
+    let count = random.below(41);
+    let mut leaves = forge::any_nodes(count as usize, random).concat();
+    if random.one_in(8) {
+        spoil(&mut leaves, random);
+    }
+    let [place, first] = [0, 1].map(|_| random.below(count + 2));
+    let is_path = count > 0 && place < count;
+    let needed = if is_path && random.one_in(2) { 32 * yields::inclusion_count(place, count) } else { 32 * random.below(7) as usize };
+    let out = some_out(needed, random);
+    hold.builders(&leaves, place, first, &out);
+    hold.tools(&leaves, &out, random);
+}
+
+/// A list of calls to one auditor, and the dispute of every two accepted pages at one place.
+fn list_round(hold: &mut Hold, random: &mut Random) {
+    let (kind, most) = (*random.pick(&KINDS), 1 << *random.pick(&[3, 4, 5, 6, 6, 32]));
+    let calls = Server::random(given::weak, kind, most, random).calls(30, 20, random);
+    hold.empty();
+    let mut record = Stored::EMPTY;
+    let mut accepted = Vec::new();
+    for call in &calls {
+        let number = match call {
+            Call::Offer(one) => {
+                let (number, after) = hold.offer(&record, one);
+                record = after;
+                number
+            }
+            Call::Page(one) => hold.ask(&record, one),
+        };
+        accepted.push(number == 0);
+    }
+    let all = disputes(&calls, &accepted);
+    for one in all.iter().take(12) {
+        hold.dispute(one, &some_pair(random));
+    }
+    #[cfg(journal)]
+    keep_journal(hold, &calls, &accepted, &all, random);
+}
+
+/// The heads of each dispute lie in the journal, from what is used at the first page to what is used at the second.
+#[cfg(journal)]
+fn keep_journal(hold: &mut Hold, calls: &[Call], accepted: &[bool], all: &[Dispute], random: &mut Random) {
+    let mut journal = random.bytes(4000);
+    let mut used = 0;
+    let mut used_at = Vec::new();
+    for (call, accepted) in calls.iter().zip(accepted) {
+        used_at.push(used);
+        if let (Call::Offer(one), true) = (call, accepted) {
+            let (answer, after) = hold.append(&journal, used, one.size, &one.root, &one.path);
+            // What does not fit is refused and leaves all as it was: a longer one is lent.
+            (used, journal) = match answer {
+                Ok(end) => (end, after),
+                Err(_) => {
+                    let longer = [after, random.bytes(4000)].concat();
+                    let (answer, after) = hold.append(&longer, used, one.size, &one.root, &one.path);
+                    (answer.unwrap(), after)
+                }
+            };
+        }
+    }
+    let parts = (0..calls.len()).flat_map(|second| (0..second).map(move |first| (first, second)));
+    let pages = parts.filter(|(first, second)| match (&calls[*first], &calls[*second]) {
+        (Call::Page(one), Call::Page(two)) => accepted[*first] && accepted[*second] && one.place == two.place,
+        _ => false,
+    });
+    let kept: Vec<&[u8]> = pages.map(|(first, second)| &journal[used_at[first]..used_at[second]]).collect();
+    assert!(kept.iter().zip(all).all(|(kept, one)| **kept == one.heads[..]) && kept.len() == all.len());
+}
+
+/// A head joined on in any place of a buffer of any length, damaged at times.
+#[cfg(journal)]
+fn journal_round(hold: &mut Hold, random: &mut Random) {
+    let one = forge::step(random);
+    let (mut root, mut path) = (one.new, one.proof);
+    match random.below(8) {
+        0 => spoil(&mut root, random),
+        1 => spoil(&mut path, random),
+        _ => (),
+    }
+    let used = random.below(100) as usize;
+    let journal = some_out(used + 42 + path.len(), random);
+    let used = if random.one_in(20) { usize::MAX - random.below(50) as usize } else { used };
+    let _ = hold.append(&journal, used, random.draw() >> random.below(64), &root, &path);
+}
+
+/// A record that no list of calls returns, with an offer and a page.
+fn record_round(hold: &mut Hold, random: &mut Random) {
+    let mut record = Stored { held: !random.one_in(4), ..Stored::EMPTY };
+    record.id.fill_with(|| random.below(2) as u8);
+    record.id_length = *random.pick(&[0, 1, 2, 3, 126, 127, 128, u64::MAX]);
+    record.timestamp = random.below(3);
+    let one = forge::step(random);
+    (record.size, record.root) = (one.first, one.old[..].try_into().unwrap());
+    let length = if random.one_in(4) { *random.pick(&[0, 1, 127, 128]) } else { record.id_length.min(127) as usize };
+    let mut log_id: Vec<u8> = record.id.iter().copied().cycle().take(length).collect();
+    if random.one_in(8) {
+        spoil(&mut log_id, random);
+    }
+    let mut offer = Offer { log_id, timestamp: random.below(4), size: one.second, root: one.new, path: one.proof };
+    match random.below(10) {
+        0 => spoil(&mut offer.root, random),
+        1 => spoil(&mut offer.path, random),
+        2 => offer.path.clear(),
+        3 => offer.size = *random.pick(&[0, record.size, record.size.wrapping_sub(1), 1 << 32, (1 << 32) + 1]),
+        4 => record.size = *random.pick(&[0, 1, offer.size, (1 << 32) + 1]),
+        5 => (offer.size, offer.path) = (record.size, vec![]),
+        6 => (offer.size, offer.path, offer.root) = (record.size, vec![], record.root.to_vec()),
+        _ => (),
+    }
+    hold.offer(&record, &offer);
+    let page = PageCall { place: one.place, page: random.bytes(1), path: one.path };
+    hold.ask(&record, &page);
+}
+
+/// Pages at the limit and over it, once.
+fn long_pages(hold: &mut Hold, random: &mut Random) {
+    given::keep(0);
+    let record = Stored { held: true, size: 1, root: given::weak(&[]), ..Stored::EMPTY };
+    let [most, over] = [LONGEST_ITEM, LONGEST_ITEM + 1].map(|length| vec![7; length]);
+    let call = |page: &[u8]| PageCall { place: 0, page: page.to_vec(), path: vec![] };
+    for page in [&most, &over] {
+        hold.ask(&record, &call(page));
+        hold.ask(&Stored::EMPTY, &call(page));
+    }
+    for (first, second) in [(&most[..], &[1][..]), (&over, &[1]), (&[1], &most), (&[1], &over), (&over, &over)] {
+        for root in [record.root.to_vec(), vec![]] {
+            let one = Dispute { first: call(first), size: 1, root, heads: vec![], second_page: second.to_vec(), second_path: vec![] };
+            hold.dispute(&one, &some_pair(random));
+        }
+    }
+    #[cfg(journal)]
+    for length in [32 * 65_535, 32 * 65_535 + 1, 32 * 65_536, 32 * 65_536 + 1] {
+        let _ = hold.append(&vec![1; 3_000_000], 5, 1 << 40, &[2; 32], &vec![3; length]);
+    }
+}
+
+/// All rounds; where a wrong program is sought, up to its first fault.
+fn rounds(code: &dyn Code, seed: u64, count: u64, is_sought: bool) -> Hold<'_> {
+    let random = &mut Random::new(seed);
+    let mut hold = Hold::new(code);
+    for turn in 0..count {
+        given::keep(BITS[turn as usize % BITS.len()]);
+        compare_round(&mut hold, random);
+        carry_round(&mut hold, random);
+        dispute_round(&mut hold, random);
+        tree_round(&mut hold, random);
+        record_round(&mut hold, random);
+        #[cfg(journal)]
+        journal_round(&mut hold, random);
+        if turn % 20 == 0 {
+            list_round(&mut hold, random);
+        }
+        if is_sought && hold.failed > 0 {
+            return hold;
+        }
+    }
+    if !is_sought {
+        long_pages(&mut hold, random);
+    }
+    hold
+}
+
+#[derive(Default)]
+struct Tally {
+    passed: u64,
+    failed: u64,
+}
+
+impl Tally {
+    fn count(&mut self, is_right: bool, what: impl FnOnce() -> String) {
+        if is_right {
+            self.passed += 1;
+        } else {
+            self.failed += 1;
+            println!("FAILED: {}", what());
+        }
+    }
+}
+
+fn translation(tally: &mut Tally) {
+    for (text, is_taken) in texts::own_tests() {
+        let source = |_: &Path| Ok(text.to_string());
+        let krate = translate::Crate { source: &source, root: "here".to_string(), prelude: String::new() };
+        let found = krate.module(Path::new("x.rt"), Path::new("x"), "x", true, &mut translate::Done::default());
+        match found {
+            Ok(found) if is_taken => {
+                let lines = |text: &str| text.lines().map(str::trim_end).filter(|line| !line.is_empty()).collect::<Vec<_>>().join("\n");
+                tally.count(lines(&found) == lines(texts::TAKEN), || format!("translated otherwise:\n{found}"));
+            }
+            found => tally.count(found.is_ok() == is_taken, || format!("{found:?} of {text:?}")),
+        }
+    }
+}
+
+fn main() {
+    let numbers: Vec<Option<u64>> = std::env::args().skip(1).map(|word| word.parse().ok()).collect();
+    let (seed, count) = match numbers[..] {
+        [Some(seed)] => (seed, 10_000),
+        [Some(seed), Some(count)] => (seed, count),
+        _ => {
+            eprintln!("weak SEED [COUNT]");
+            std::process::exit(2);
+        }
+    };
+    hold::quiet_while_tried();
+    let mut tally = Tally::default();
+    println!("seed {seed}, {count} rounds; {}", variants::TRANSLATED);
+    for name in variants::PUBLIC {
+        tally.count(COMPARED.contains(name), || format!("public, and not compared: {name}"));
+    }
+    translation(&mut tally);
+
+    let hold = rounds(variants::CODES[0].1, seed, count, false);
+    hold.shown.iter().for_each(|one| println!("DISAGREEMENT: {one}"));
+    hold.kinds.iter().for_each(|(kind, count)| println!("{count:>8}  {kind}"));
+    tally.passed += hold.calls - hold.failed;
+    tally.failed += hold.failed;
+    for kind in WANTED.lines().filter(|kind| cfg!(journal) || !kind.starts_with("journal: ")) {
+        tally.count(hold.kinds.contains_key(kind), || format!("did not come up: {kind}"));
+    }
+
+    for (name, code) in &variants::CODES[1..] {
+        let hold = rounds(*code, seed, count, true);
+        if let Some((entry, _)) = hold.shown.first().and_then(|one| one.split_once(" of ")) {
+            println!("found by {entry}, in {} calls: {name}", hold.calls);
+        }
+        tally.count(hold.failed > 0, || format!("not found: {name}"));
+    }
+    println!("{} passed, {} failed", tally.passed, tally.failed);
+    std::process::exit((tally.failed > 0).into());
+}
