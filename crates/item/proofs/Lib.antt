@@ -12,6 +12,7 @@ pub mod Reading
 pub mod Rows
 pub mod Writing
 pub mod Putting
+pub mod Stripping
 pub mod Items
 pub mod Strings
 pub mod Newest

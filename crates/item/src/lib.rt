@@ -5,6 +5,7 @@
 // reader: a whole item                           writer: the same, the other way    heads: the newer of two
 mod heads;
 mod layout;
+mod path;
 mod reader;
 mod table;
 mod writer;
@@ -13,6 +14,7 @@ ghost use Rattle.item.specs.Claims.{ReadThenWritten, ReadGives, WrittenT
 pub use heads::newer;
 pub use layout::Part;
 pub use layout::big_endian;
+pub use path::path_into;
 pub use reader::Item;
 pub use reader::read;
 pub use writer::Numbers;
