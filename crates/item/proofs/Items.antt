@@ -33,14 +33,14 @@ use Rattle.item.proofs.Rows.{layout-length}
 use Rattle.item.proofs.Within.{parts-within, place-within}
 
 -- an item that was read
-record WasRead (s : List ℕ) (r : Reading) : Type 0 where
-  short : length s ≤ limit
-  typed : 2 ≤ length s
-  kind : r .kind ≡ unbe (take 2 s)
-  case : find types (unbe (take 2 s)) ≡ good (r .case)
-  fields : read (layoutOf (r .case)) s 2 ≡ good (r .fields)
+pub record WasRead (s : List ℕ) (r : Reading) : Type 0 where
+  pub short : length s ≤ limit
+  pub typed : 2 ≤ length s
+  pub kind : r .kind ≡ unbe (take 2 s)
+  pub case : find types (unbe (take 2 s)) ≡ good (r .case)
+  pub fields : read (layoutOf (r .case)) s 2 ≡ good (r .fields)
 
-was-read : (s : List ℕ) (r : Reading) → readItem s ≡ good r → WasRead s r
+pub was-read : (s : List ℕ) (r : Reading) → readItem s ≡ good r → WasRead s r
 unfolding readItem
 was-read s r e = go (ltb limit (length s)) (ltb (length s) 2) (find types k) refl refl refl e
   where

@@ -13,6 +13,7 @@ pub mod Rows
 pub mod Writing
 pub mod Putting
 pub mod Stripping
+pub mod Hashing
 pub mod Items
 pub mod Strings
 pub mod Newest
