@@ -1,9 +1,8 @@
 -- Both round trips, and the path of an item that was read, over the contracts as the source states them: each answer is any that the function's `ensures`
 -- allows, so that a weaker `ensures` does not prove them. Assumes nothing.
-use mathlib.Core.Path.{_≡_, refl, ap, sym, subst, _∙_}
+use mathlib.Core.Path.{_≡_, ap, sym, subst, _∙_}
 use mathlib.Core.List.{List, _++_}
 use Prim.Native.Nat.{ℕ, _≤_}
-use native.Mathlib.Omega.{arith}
 use lib.ListN.{length, take, drop}
 use lib.Seq.{take-at}
 use borrow.Author.Tests.{le-ltb}
@@ -15,7 +14,7 @@ use Rattle.item.specs.declared.reader.Item.the-variants.{Entry, Receipt,
 use Rattle.item.specs.declared.writer.Numbers.{Numbers}
 use Rattle.item.specs.declared.writer.Written.{Written}
 use Rattle.item.specs.declared.writer.Written.the-variants.{Length, Refused as refusedAt}
-use Rattle.item.specs.Answer.{Answer, good, bad}
+use Rattle.item.specs.Answer.{good}
 use Rattle.item.specs.Layout.{Bytes}
 use Rattle.item.specs.Item.{reading, readItem, Vectors, vectors, writing, Outcome, wrote, writeItem}
 use Rattle.item.specs.Path.{pathAt, copyPath}

@@ -1,5 +1,5 @@
 -- A path's elements and its joined hashes, and what is copied of a part. Assumes nothing.
-use mathlib.Core.Path.{_≡_, refl, ap, ap₂, sym, subst, _∙_}
+use mathlib.Core.Path.{_≡_, refl, ap, ap₂, sym, _∙_}
 use mathlib.Core.List.{List, [], _∷_, _++_}
 use mathlib.Core.Bool.{Bool, true, false, cond}
 use Prim.Native.Nat.{ℕ, zero, suc, _+_, _*_, _/_, _≤_, _<_}
@@ -12,11 +12,11 @@ use Rattle.item.specs.declared.layout.Part.{Part}
 use Rattle.item.specs.declared.layout.Inner.the-variants.{NodeList}
 use Rattle.item.specs.declared.layout.Inside.{Inside}
 use Rattle.item.specs.declared.layout.Inside.the-variants.{Fine, Wrong}
-use Rattle.item.specs.Answer.{Answer, good, bad}
+use Rattle.item.specs.Answer.{good, bad}
 use Rattle.item.specs.Layout.{be, inside, cut}
 use Rattle.item.specs.Write.{prefixed, stripped, unwrap, fine}
 use Rattle.item.specs.Path.{encoded, joined, pathAt}
-use Rattle.item.specs.Claims.{Each, Joins, CopiedIsJoined, JoinedIsCopied}
+use Rattle.item.specs.Claims.{Each, CopiedIsJoined, JoinedIsCopied}
 use Rattle.item.proofs.Answers.{bad-good, same-good}
 use Rattle.item.proofs.Bodies.{path-hashes, strip}
 use Rattle.item.proofs.Places.{nodes-fine}

@@ -1,20 +1,20 @@
 -- Elements without their lengths, one after the other; and what is copied of the path at a part. Assumes nothing.
-use mathlib.Core.Path.{_≡_, refl, ap, ap₂, sym, _∙_}
-use mathlib.Core.List.{List, [], _∷_, _++_}
+use mathlib.Core.Path.{_≡_, refl, ap, sym, _∙_}
+use mathlib.Core.List.{List, _++_}
 use Prim.Native.Nat.{ℕ, zero, suc, _+_, _-_, _*_, _/_, _≤_, _<_}
 use native.Mathlib.Omega.{arith}
 use native.Mathlib.Nat.{zero-add}
 use lib.ListN.{length, take, drop, length-append, length-drop}
-use lib.Seq.{take-at, drop-at, length-take-le, drop-drop, take-take}
+use lib.Seq.{drop-at, length-take-le, drop-drop, take-take}
 use borrow.Author.Tests.{lt-ltb, le-ltb}
 use Rattle.item.specs.declared.layout.Part.{Part}
 use Rattle.item.specs.declared.layout.Inner.the-variants.{NodeList}
 use Rattle.item.specs.declared.layout.Inside.{Inside}
 use Rattle.item.specs.declared.layout.Inside.the-variants.{Fine, Wrong}
-use Rattle.item.specs.Answer.{good, bad}
+use Rattle.item.specs.Answer.{good}
 use Rattle.item.specs.Layout.{inside, cut}
 use Rattle.item.specs.Write.{stripped, unwrap, fine}
-use Rattle.item.specs.Item.{unwritten, wrote, outcome}
+use Rattle.item.specs.Item.{unwritten, outcome}
 use Rattle.item.specs.Path.{pathAt, copyPath}
 use Rattle.item.specs.Steps.{part, put}
 use Rattle.item.proofs.Elements.{drop-take}

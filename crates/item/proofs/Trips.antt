@@ -25,7 +25,7 @@ use Rattle.item.specs.Table.{namesOf, layoutOf}
 use Rattle.item.specs.Item.{Reading, reading, readItem, Vectors, filled, wrote, writeItem}
 use Rattle.item.specs.Path.{pathAt, copyPath}
 use Rattle.item.specs.Newer.{none}
-use Rattle.item.specs.Claims.{Given, HasPath, pathPart, PathSaid, PathIsSaid, Taken, Copied, TakenThenWritten, WrittenThenTaken, CopyKeeps}
+use Rattle.item.specs.Claims.{Given, HasPath, pathPart, PathIsSaid, Taken, Copied, TakenThenWritten, WrittenThenTaken, CopyKeeps}
 use Rattle.item.proofs.Answers.{bad-good, good-bad, same-good}
 use Rattle.item.proofs.Lent.{refused-keeps, past-keeps}
 use Rattle.item.proofs.Founds.{found-vector}
