@@ -76,6 +76,10 @@ hashes (suc n) last b at h e = go (eqb (length b) 0) refl (element NodeList last
         let f = less m t (simp length-drop (omega arith)) e in
         one-more b (z .1) (z .2) (subst (λ (j : ℕ). Hashes (drop j b)) (z .0) f)
 
+pub path-hashes : (b : List ℕ) (at : ℕ) → inside NodeList b at ≡ Fine → Hashes b
+unfolding inside insideFrom
+path-hashes b at e = hashes (length b) 0 b at (omega arith) e
+
 -- a body that is fine is that of its value
 pub record Body (i : Inner) (b : List ℕ) : Type 0 where
   pub again : wrap i (unwrap i b) ≡ b
@@ -83,11 +87,11 @@ pub record Body (i : Inner) (b : List ℕ) : Type 0 where
   pub round : wholes i (length (unwrap i b)) ≡ true
 
 pub body : (i : Inner) (b : List ℕ) (at : ℕ) → inside i b at ≡ Fine → Body i b
-unfolding wrap unwrap bodySize wholes inside insideFrom
+unfolding wrap unwrap bodySize wholes
 body Opaque b at e = record { again = refl; size = refl; round = refl }
 body ExtensionList b at e = record { again = refl; size = refl; round = refl }
 body NodeList b at e =
-    let h = hashes (length b) 0 b at (omega arith) e in
+    let h = path-hashes b at e in
     let k = h .count in
     let c : length b / 33 ≡ k = omega (arith, h .size) in
     let d : length (stripped (length b / 33) b) ≡ 32 * k = rw c (h .plain) in

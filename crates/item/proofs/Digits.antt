@@ -17,7 +17,7 @@ unbe-snoc (x ∷ xs) b =
     let e = unbe-snoc xs b in
     let l : length (xs ++ (b ∷ [])) ≡ suc (length xs) = length-append xs (b ∷ []) ∙ omega arith in
     let m : x * 256 ^ suc (length xs) ≡ x * 256 ^ length xs * 256 = ap (λ (k : ℕ). x * k) (pow-suc 256 (length xs)) ∙ sym (mul-assoc x (256 ^ length xs) 256) in
-    rw (l, e, m) (omega arith)
+    ap₂ (λ (a b : ℕ). x * 256 ^ a + b) l e ∙ omega (arith, m)
 
 -- one more byte of a list
 pub unbe-more : (s : List ℕ) (at i : ℕ) → at + i < length s → unbe (take (i + 1) (drop at s)) ≡ unbe (take i (drop at s)) * 256 + getD s (at + i) 0

@@ -6,7 +6,7 @@ use Prim.Native.Nat.{ℕ, suc, _+_, _/_, _≤_}
 use native.Mathlib.Omega.{arith}
 use lib.ListN.{length, getD, take, drop, length-append, take-append-drop}
 use lib.Dec.{ltb, eqb}
-use lib.Seq.{take-at, drop-at, length-take-le, take-all}
+use lib.Seq.{take-at, length-take-le, take-all}
 use borrow.Author.Tests.{le-ltb, ltb-false}
 use Rattle.item.specs.declared.layout.Part.{Part}
 use Rattle.item.specs.declared.layout.Field.{Field}
@@ -24,6 +24,7 @@ use Rattle.item.specs.Table.{limit, Row, fieldOf, namesOf, layoutOf, typ
 use Rattle.item.specs.Item.{Reading, item, readItem, Vectors, vectors, valueOf, filled, Outcome, unwritten, wrote, outcome, writeItem}
 use Rattle.item.specs.Claims.{ReadThenWritten, Gives, ReadGives, Sized, ReadsBack, WrittenThenRead, RefusedWithin, FieldsWithin, WriterKeeps}
 use Rattle.item.proofs.Answers.{bad-good, good-bad, same-good, same-place}
+use Rattle.item.proofs.Lent.{refused-keeps, past-keeps}
 use Rattle.item.proofs.Digits.{be-length, unbe-be, be-unbe}
 use Rattle.item.proofs.Fills.{most, fill-short}
 use Rattle.item.proofs.Vectors.{bytes-take, Typed}
@@ -33,14 +34,14 @@ use Rattle.item.proofs.Rows.{layout-length}
 use Rattle.item.proofs.Within.{parts-within, place-within}
 
 -- an item that was read
-record WasRead (s : List ℕ) (r : Reading) : Type 0 where
-  short : length s ≤ limit
-  typed : 2 ≤ length s
-  kind : r .kind ≡ unbe (take 2 s)
-  case : find types (unbe (take 2 s)) ≡ good (r .case)
-  fields : read (layoutOf (r .case)) s 2 ≡ good (r .fields)
+pub record WasRead (s : List ℕ) (r : Reading) : Type 0 where
+  pub short : length s ≤ limit
+  pub typed : 2 ≤ length s
+  pub kind : r .kind ≡ unbe (take 2 s)
+  pub case : find types (unbe (take 2 s)) ≡ good (r .case)
+  pub fields : read (layoutOf (r .case)) s 2 ≡ good (r .fields)
 
-was-read : (s : List ℕ) (r : Reading) → readItem s ≡ good r → WasRead s r
+pub was-read : (s : List ℕ) (r : Reading) → readItem s ≡ good r → WasRead s r
 unfolding readItem
 was-read s r e = go (ltb limit (length s)) (ltb (length s) 2) (find types k) refl refl refl e
   where
@@ -213,21 +214,8 @@ written-then-read k n t out m z e =
 -- a refusal of the writer changes nothing, and bytes past the item stay
 pub writer-keeps : WriterKeeps
 unfolding writeItem
-writer-keeps k n t out = (refused, past)
-  where
-    refused : (x at : ℕ) → writeItem k n t out .answer ≡ bad x at → writeItem k n t out .bytes ≡ out
-    refused x at e = go (then (find types k) (λ d. join (be 2 k) (write (filled n t (namesOf d)) 2))) e
-      where
-        go : (a : Answer (List ℕ)) → outcome out a .answer ≡ bad x at → outcome out a .bytes ≡ out
-        go (bad y z) e = refl
-        go (good b) e = last (ltb (length out) (length b)) e
-          where
-            last : (q : Bool) → _≡_ {A = Answer ℕ} (cond {A = Outcome} q (unwritten 9 0 out) (wrote b out) .answer) (bad x at) → cond {A = Outcome} q (unwritten 9 0 out) (wrote b out) .bytes ≡ out
-            last true e = refl
-            last false e = good-bad x at _ e
-
-    past : (m : ℕ) → writeItem k n t out .answer ≡ good m → drop m (writeItem k n t out .bytes) ≡ drop m out
-    past m e = let h = was-written k n t out m e in ap (drop m) (h .bytes) ∙ drop-at (be 2 k ++ h .body) (drop m out) m (h .size)
+writer-keeps k n t out =
+    let a = then (find types k) (λ d. join (be 2 k) (write (filled n t (namesOf d)) 2)) in (refused-keeps a out, past-keeps a out)
 
 -- as many parts as fields
 read-count : (fs : List Field) (s : List ℕ) (at : ℕ) (ps : List Part) → read fs s at ≡ good ps → length ps ≡ length fs

@@ -1,4 +1,5 @@
 pub mod Answers
+pub mod Lent
 pub mod Digits
 pub mod Elements
 pub mod Places
@@ -12,6 +13,10 @@ pub mod Reading
 pub mod Rows
 pub mod Writing
 pub mod Putting
+pub mod Stripping
+pub mod Hashing
 pub mod Items
+pub mod Trips
+pub mod Every
 pub mod Strings
 pub mod Newest

@@ -16,6 +16,19 @@ use Rattle.item.specs.Claims.{Each}
 use Rattle.item.proofs.Answers.{bad-good, good-bad, same-good, same-place}
 use Rattle.item.proofs.Founds.{found-within, refused-within}
 
+-- each field with its part
+abbrev pub Both : (Field → Part → Type 0) → List Field → List Part → Type 0
+Both P [] [] = Unit
+Both P [] (p ∷ ps) = ⊥
+Both P (f ∷ fs) [] = ⊥
+Both P (f ∷ fs) (p ∷ ps) = P f p × Both P fs ps
+
+seconds : (Q : Part → Type 0) (fs : List Field) (ps : List Part) → Both (λ f p. Q p) fs ps → Each Q ps
+seconds Q [] [] b = tt
+seconds Q [] (p ∷ ps) b = absurd b
+seconds Q (f ∷ fs) [] b = absurd b
+seconds Q (f ∷ fs) (p ∷ ps) b = (b .0, seconds Q fs ps (b .1))
+
 module _ (s : List ℕ) where
   abbrev Inside : Part → Type 0
   Inside p = p .start + p .len ≤ length s
@@ -23,22 +36,26 @@ module _ (s : List ℕ) where
   found-inside : (f : Field) (at : ℕ) (p : Part) → at ≤ length s → field f (drop at s) at ≡ Found p → Inside p
   found-inside f at p h e = omega (arith, found-within f (drop at s) at p e, length-drop at s)
 
-  pub parts-within : (fs : List Field) (at : ℕ) (ps : List Part) → at ≤ length s → read fs s at ≡ good ps → Each Inside ps
+  -- what holds of each field that is found holds of all that are read
+  pub parts-all : (P : Field → Part → Type 0) → ((f : Field) (at : ℕ) (p : Part) → at ≤ length s → field f (drop at s) at ≡ Found p → P f p) → (fs : List Field) (at : ℕ) (ps : List Part) → at ≤ length s → read fs s at ≡ good ps → Both P fs ps
   unfolding read
-  parts-within [] at ps h e = go (ltb at (length s)) e
+  parts-all P one [] at ps h e = go (ltb at (length s)) e
     where
-      go : (b : Bool) → cond b (bad 3 at) (good []) ≡ good ps → Each Inside ps
+      go : (b : Bool) → cond b (bad 3 at) (good []) ≡ good ps → Both P [] ps
       go true e = bad-good 3 at ps e
-      go false e = subst (λ (x : List Part). Each Inside x) (same-good [] ps e) tt
-  parts-within (f ∷ fs) at ps h e = go (field f (drop at s) at) refl e (λ p. parts-within fs (p .start + p .len))
+      go false e = subst (λ (x : List Part). Both P [] x) (same-good [] ps e) tt
+  parts-all P one (f ∷ fs) at ps h e = go (field f (drop at s) at) refl e (λ p. parts-all P one fs (p .start + p .len))
     where
-      go : (x : FieldRead) → field f (drop at s) at ≡ x → next x (λ p. push p (read fs s (p .start + p .len))) ≡ good ps → ((p : Part) (qs : List Part) → Inside p → read fs s (p .start + p .len) ≡ good qs → Each Inside qs) → Each Inside ps
+      go : (x : FieldRead) → field f (drop at s) at ≡ x → next x (λ p. push p (read fs s (p .start + p .len))) ≡ good ps → ((p : Part) (qs : List Part) → Inside p → read fs s (p .start + p .len) ≡ good qs → Both P fs qs) → Both P (f ∷ fs) ps
       go (Bad x y) hx e less = bad-good x y ps e
       go (Found p) hx e less = more (read fs s (p .start + p .len)) refl e
         where
-          more : (a : Answer (List Part)) → read fs s (p .start + p .len) ≡ a → push p a ≡ good ps → Each Inside ps
+          more : (a : Answer (List Part)) → read fs s (p .start + p .len) ≡ a → push p a ≡ good ps → Both P (f ∷ fs) ps
           more (bad x y) ha e = bad-good x y ps e
-          more (good qs) ha e = let i = found-inside f at p h hx in subst (λ (x : List Part). Each Inside x) (same-good (p ∷ qs) ps e) (i, less p qs i ha)
+          more (good qs) ha e = subst (λ (x : List Part). Both P (f ∷ fs) x) (same-good (p ∷ qs) ps e) (one f at p h hx, less p qs (found-inside f at p h hx) ha)
+
+  pub parts-within : (fs : List Field) (at : ℕ) (ps : List Part) → at ≤ length s → read fs s at ≡ good ps → Each Inside ps
+  parts-within fs at ps h e = seconds Inside fs ps (parts-all (λ f p. Inside p) found-inside fs at ps h e)
 
   pub place-within : (fs : List Field) (at x y : ℕ) → at ≤ length s → read fs s at ≡ bad x y → y ≤ length s
   unfolding read

@@ -1,18 +1,23 @@
 -- What is proved of whole items beside the promises, in the words of the second demand. Assumes nothing.
-use Prim.Native.Nat.{ℕ, _+_, _^_, _≤_, _<_}
+use Prim.Native.Nat.{ℕ, _+_, _*_, _^_, _≤_, _<_}
 use mathlib.Core.Path.{_≡_}
 use mathlib.Core.List.{List, [], _∷_}
-use lib.ListN.{length, take, drop}
+use lib.ListN.{length, getD, take, drop}
 use denote.Ref.{RefT}
 use Rattle.item.specs.declared.layout.Part.{Part}
+use Rattle.item.specs.declared.table.Case.{Case}
+use Rattle.item.specs.declared.table.Case.the-variants.{Entry, Receipt, SignedHead, Consistency, Inclusion, Page}
+use Rattle.item.specs.declared.reader.Item.{Item}
+use Rattle.item.specs.declared.reader.Item.the-variants.{Entry as entry, Receipt as receipt, SignedHead as signedHead, Consistency as consistency, Inclusion as inclusion, Page as page, Refused as refused}
 use Rattle.item.specs.declared.heads.Choice.the-variants.{Neither}
 use Rattle.item.specs.declared.writer.Numbers.{Numbers}
 use Rattle.item.specs.Answer.{good, bad}
-use Rattle.item.specs.Layout.{Bytes}
+use Rattle.item.specs.Layout.{Bytes, cut}
 use Rattle.item.specs.Write.{values}
 use Rattle.item.specs.Table.{namesOf, layoutOf}
-use Rattle.item.specs.Item.{Reading, readItem, Vectors, filled, wrote, writeItem}
-use Rattle.item.specs.Newer.{which, handed}
+use Rattle.item.specs.Item.{Reading, reading, readItem, Vectors, filled, wrote, writeItem}
+use Rattle.item.specs.Path.{encoded, joined, pathAt, copyPath}
+use Rattle.item.specs.Newer.{none, which, handed}
 
 -- the writer is given what was read in s: the type, and by each name that the type has, the value that was read there
 abbrev pub Given : List ℕ → Reading → ℕ → Numbers → Vectors → Type 0
@@ -60,9 +65,9 @@ abbrev pub RefusedWithin : Type 0
 RefusedWithin = (s : List ℕ) (x at : ℕ) → readItem s ≡ bad x at → at ≤ length s
 
 -- every field lies within the input
-abbrev pub Each : (Part → Type 0) → List Part → Type 0
+abbrev pub Each : {A : Type 0} → (A → Type 0) → List A → Type 0
 Each P [] = Unit
-Each P (p ∷ ps) = P p × Each P ps
+Each P (x ∷ xs) = P x × Each P xs
 
 abbrev pub FieldsWithin : Type 0
 FieldsWithin = (s : List ℕ) (r : Reading) → readItem s ≡ good r → Each (λ p. p .start + p .len ≤ length s) (r .fields)
@@ -77,3 +82,84 @@ WriterKeeps =
 -- the empty part comes back only where neither is chosen
 abbrev pub EmptyIsNeither : Type 0
 EmptyIsNeither = (a b r : RefT (List ℕ)) → handed (which (a .now) (b .now)) a b r → r .now ≡ [] → which (a .now) (b .now) ≡ Neither
+
+-- what is copied of a part is what stands there: hashes of 32 bytes, each with its length, and the same hashes joined
+pub record Joins (s : List ℕ) (p : Part) (w : List ℕ) : Type 0 where
+  pub within : p .start + p .len ≤ length s
+  pub hashes : List (List ℕ)
+  pub ours : Each (λ h. length h ≡ 32) hashes
+  pub item : cut s p ≡ encoded hashes
+  pub path : w ≡ joined hashes
+  pub size : length w ≡ 32 * length hashes
+  pub each : (i : ℕ) → i < length hashes → take 32 (drop (32 * i) w) ≡ getD hashes i []
+
+abbrev pub CopiedIsJoined : Type 0
+CopiedIsJoined = (s : List ℕ) (p : Part) (w : List ℕ) → pathAt s p ≡ good w → Joins s p w
+
+-- and whatever part holds such hashes is copied
+abbrev pub JoinedIsCopied : Type 0
+JoinedIsCopied =
+    (s : List ℕ) (p : Part) (hs : List (List ℕ)) → p .start + p .len ≤ length s → Each (λ h. length h ≡ 32) hs → cut s p ≡ encoded hs → pathAt s p ≡ good (joined hs)
+
+-- a refused copy changes no byte; otherwise the bytes past those written stay
+abbrev pub CopyKeeps : Type 0
+CopyKeeps =
+    (s : List ℕ) (p : Part) (out : List ℕ)
+    → ((x at : ℕ) → copyPath s p out .answer ≡ bad x at → copyPath s p out .bytes ≡ out)
+    × ((m : ℕ) → copyPath s p out .answer ≡ good m → drop m (copyPath s p out .bytes) ≡ drop m out)
+
+-- the lines of the table that have a path: it is their fourth field
+abbrev pub HasPath : Case → Type 0
+HasPath Consistency = Unit
+HasPath Inclusion = Unit
+HasPath Entry = ⊥
+HasPath Receipt = ⊥
+HasPath SignedHead = ⊥
+HasPath Page = ⊥
+
+abbrev pub pathPart : Reading → Part
+pathPart r = getD (r .fields) 3 none
+
+-- the path of an item that was read is copied, and what is copied is what the item says and what the writer is given for it
+pub record PathSaid (s : List ℕ) (r : Reading) : Type 0 where
+  pub path : List ℕ
+  pub copied : (out : List ℕ) → length path ≤ length out → copyPath s (pathPart r) out ≡ wrote path out
+  pub says : Joins s (pathPart r) path
+  pub given : (k : ℕ) (n : Numbers) (t : Vectors) → Given s r k n t → t .path ≡ path
+
+abbrev pub PathIsSaid : Type 0
+PathIsSaid = (s : List ℕ) (r : Reading) → readItem s ≡ good r → HasPath (r .case) → PathSaid s r
+
+-- What a caller takes of the reader's answer and hands to the writer: the type, each number as it was answered, each vector's bytes where it lies, and for
+-- a path what P says of its part.
+abbrev pub Taken : (Part → List ℕ → Type 0) → List ℕ → Item → ℕ → Numbers → Vectors → Type 0
+Taken P s (entry kind timestamp issuerKeyHash certificate extensions) k n t =
+    (k ≡ kind) × (n .timestamp ≡ timestamp .value) × (t .issuerKeyHash ≡ cut s issuerKeyHash) × (t .certificate ≡ cut s certificate) × (t .extensions ≡ cut s extensions)
+Taken P s (receipt kind logId timestamp extensions signature) k n t =
+    (k ≡ kind) × (t .logId ≡ cut s logId) × (n .timestamp ≡ timestamp .value) × (t .extensions ≡ cut s extensions) × (t .signature ≡ cut s signature)
+Taken P s (signedHead kind logId timestamp size rootHash extensions signature) k n t =
+    (k ≡ kind) × (t .logId ≡ cut s logId) × (n .timestamp ≡ timestamp .value) × (n .size ≡ size .value) × (t .rootHash ≡ cut s rootHash)
+    × (t .extensions ≡ cut s extensions) × (t .signature ≡ cut s signature)
+Taken P s (consistency kind logId sizeOne sizeTwo path) k n t =
+    (k ≡ kind) × (t .logId ≡ cut s logId) × (n .«size_one» ≡ sizeOne .value) × (n .«size_two» ≡ sizeTwo .value) × P path (t .path)
+Taken P s (inclusion kind logId size place path) k n t =
+    (k ≡ kind) × (t .logId ≡ cut s logId) × (n .size ≡ size .value) × (n .place ≡ place .value) × P path (t .path)
+Taken P s (page kind timestamp agreement number body) k n t =
+    (k ≡ kind) × (n .timestamp ≡ timestamp .value) × (n .agreement ≡ agreement .value) × (n .page ≡ number .value) × (t .body ≡ cut s body)
+Taken P s (refused number place) k n t = ⊥
+
+-- the path that is copied of its part
+abbrev pub Copied : List ℕ → Part → List ℕ → Type 0
+Copied s p w = pathAt s p ≡ good w
+
+-- both round trips as a caller makes them
+abbrev pub TakenThenWritten : Type 0
+TakenThenWritten =
+    (s out : List ℕ) (i : Item) (k : ℕ) (n : Numbers) (t : Vectors) → Bytes s → reading i ≡ readItem s → Taken (Copied s) s i k n t → length s ≤ length out
+    → writeItem k n t out ≡ wrote s out
+
+abbrev pub WrittenThenTaken : Type 0
+WrittenThenTaken =
+    (k : ℕ) (n : Numbers) (t : Vectors) (out : List ℕ) (m : ℕ) (i : Item) → Sized k n → writeItem k n t out .answer ≡ good m
+    → reading i ≡ readItem (take m (writeItem k n t out .bytes))
+    → Taken (Copied (take m (writeItem k n t out .bytes))) (take m (writeItem k n t out .bytes)) i k n t

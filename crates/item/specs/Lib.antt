@@ -3,6 +3,7 @@ pub mod Layout
 pub mod Write
 pub mod Table
 pub mod Item
+pub mod Path
 pub mod Newer
 pub mod Claims
 pub mod Steps

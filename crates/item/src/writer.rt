@@ -234,7 +234,7 @@ fn measure<'a>(
     Fill::Takes(at)
 }
 
-fn copy_at(out: &mut [u8], at: usize, src: &[u8])
+pub(crate) fn copy_at(out: &mut [u8], at: usize, src: &[u8])
     requires { ⌜ at + length (now src) ≤ length (now out) ⌝ }
     ensures { λ _. ⌜ now (out .exit) ≡ put (now (out .entry)) at (now (src .entry)) ⌝ }
 {
@@ -287,7 +287,7 @@ fn put_uint(out: &mut [u8], at: usize, width: usize, n: u64) -> usize
 }
 
 // A hash of its own: two copies between places that cannot overlap are quicker than one between any two.
-fn hash_at(v: &[u8], at: usize) -> [u8; 32]
+pub(crate) fn hash_at(v: &[u8], at: usize) -> [u8; 32]
     requires { ⌜ at + 32 ≤ length (now v) ⌝ }
     ensures { λ r. ⌜ r ≡ take 32 (drop at (now (v .entry))) ⌝ }
 {

@@ -1,0 +1,148 @@
+-- Both round trips, and the path of an item that was read, over the contracts as the source states them: each answer is any that the function's `ensures`
+-- allows, so that a weaker `ensures` does not prove them. Assumes nothing.
+use mathlib.Core.Path.{_≡_, ap, sym, subst, _∙_}
+use mathlib.Core.List.{List, _++_}
+use Prim.Native.Nat.{ℕ, _≤_}
+use lib.ListN.{length, take, drop}
+use lib.Seq.{take-at}
+use borrow.Author.Tests.{le-ltb}
+use contract.Lifetimes.{Lfts}
+use denote.Ref.{RefT}
+use Rattle.item.specs.declared.layout.Part.{Part}
+use Rattle.item.specs.declared.reader.Item.{Item}
+use Rattle.item.specs.declared.reader.Item.the-variants.{Entry, Receipt, SignedHead, Consistency, Inclusion, Page, Refused}
+use Rattle.item.specs.declared.writer.Numbers.{Numbers}
+use Rattle.item.specs.declared.writer.Written.{Written}
+use Rattle.item.specs.declared.writer.Written.the-variants.{Length, Refused as refusedAt}
+use Rattle.item.specs.Answer.{good}
+use Rattle.item.specs.Layout.{Bytes}
+use Rattle.item.specs.Item.{reading, readItem, Vectors, vectors, writing, Outcome, wrote, writeItem}
+use Rattle.item.specs.Path.{pathAt, copyPath}
+use Rattle.item.specs.Claims.{Sized, Joins, Taken, Copied}
+use Rattle.item.proofs.Answers.{bad-good, same-good}
+use Rattle.item.proofs.Lent.{was-put}
+use Rattle.item.proofs.Trips.{taken-then-written, written-then-taken, path-is-said}
+use Rattle.item.proofs.reader.read.Reads as read-reads
+use Rattle.item.proofs.path.path_into.Reads as path-reads
+use Rattle.item.proofs.writer.write.Reads as write-reads
+
+-- what each function may answer, by its contract: the reader; the copy of a path, with the lent bytes before and after; the writer, likewise
+pub record Reads (s : RefT (List ℕ)) (i : Item) : Type 0 where
+  pub lives : Lfts 1
+  pub learnt : read-reads.Learnt lives (s, tt) i (s, tt)
+
+pub record Copies (s : RefT (List ℕ)) (p : Part) (out out′ : RefT (List ℕ)) (a : Written) : Type 0 where
+  pub lives : Lfts 2
+  pub learnt : path-reads.Learnt lives (s, (p, (out, tt))) a (s, (p, (out′, tt)))
+
+-- the slices that the writer is lent
+pub record Slices : Type 0 where
+  pub log : RefT (List ℕ)
+  pub issuer : RefT (List ℕ)
+  pub certificate : RefT (List ℕ)
+  pub root : RefT (List ℕ)
+  pub extensions : RefT (List ℕ)
+  pub signature : RefT (List ℕ)
+  pub path : RefT (List ℕ)
+  pub body : RefT (List ℕ)
+
+abbrev pub held : Slices → Vectors
+held v =
+    vectors (v .log .now) (v .issuer .now) (v .certificate .now) (v .root .now) (v .extensions .now) (v .signature .now) (v .path .now) (v .body .now)
+
+pub record Writes (k : ℕ) (n : Numbers) (v : Slices) (out out′ : RefT (List ℕ)) (a : Written) : Type 0 where
+  pub lives : Lfts 2
+  pub learnt :
+      write-reads.Learnt lives
+      (k, (n, (v .log, (v .issuer, (v .certificate, (v .root, (v .extensions, (v .signature, (v .path, (v .body, (out, tt)))))))))))
+      a
+      (k, (n, (v .log, (v .issuer, (v .certificate, (v .root, (v .extensions, (v .signature, (v .path, (v .body, (out′, tt)))))))))))
+
+-- a path as a caller has it: the first bytes of what `path_into` was lent, as many as it answered
+pub record Through (s : RefT (List ℕ)) (p : Part) (w : List ℕ) : Type 0 where
+  pub out : RefT (List ℕ)
+  pub after : RefT (List ℕ)
+  pub count : ℕ
+  pub copies : Copies s p out after (Length count)
+  pub is : w ≡ take count (after .now)
+
+-- whatever `path_into` answers where the lent bytes are long enough, it has copied this path
+abbrev pub Comes : RefT (List ℕ) → Part → List ℕ → Type 0
+Comes s p w =
+    (out after : RefT (List ℕ)) (a : Written) → Copies s p out after a → length w ≤ length (out .now) → (a ≡ Length (length w)) × (after .now ≡ w ++ drop (length w) (out .now))
+
+-- what is asked of a path may be exchanged
+taken-by : (P Q : Part → List ℕ → Type 0) (s : List ℕ) (i : Item) (k : ℕ) (n : Numbers) (t : Vectors) → ((p : Part) (w : List ℕ) → P p w → Q p w) → Taken P s i k n t → Taken Q s i k n t
+taken-by P Q s (Entry k′ a b c d) k n t f h = h
+taken-by P Q s (Receipt k′ a b c d) k n t f h = h
+taken-by P Q s (SignedHead k′ a b c d e g) k n t f h = h
+taken-by P Q s (Consistency k′ a b c p) k n t f (x, y, z, u, h) = (x, y, z, u, f p (t .path) h)
+taken-by P Q s (Inclusion k′ a b c p) k n t f (x, y, z, u, h) = (x, y, z, u, f p (t .path) h)
+taken-by P Q s (Page k′ a b c d) k n t f h = h
+taken-by P Q s (Refused x y) k n t f h = h
+
+written-length : (a : Written) (m : ℕ) → writing a ≡ good m → a ≡ Length m
+written-length (Length n) m e = ap Length (same-good n m e)
+written-length (refusedAt x y) m e = bad-good x y m e
+
+through-copied : (s : RefT (List ℕ)) (p : Part) (w : List ℕ) → Through s p w → Copied (s .now) p w
+unfolding copyPath
+through-copied s p w h =
+    let l = h .copies .learnt in
+    let b = was-put (pathAt (s .now) p) (h .out .now) (h .count) (sym (l .0)) in
+    let t : take (h .count) (h .after .now) ≡ b .bytes = ap (take (h .count)) (l .1 ∙ b .after) ∙ take-at (b .bytes) (drop (h .count) (h .out .now)) (h .count) (sym (b .size)) in
+    b .is ∙ ap good (sym (h .is ∙ t))
+
+wrote-comes : (s : RefT (List ℕ)) (p : Part) (w : List ℕ) → ((out : List ℕ) → length w ≤ length out → copyPath (s .now) p out ≡ wrote w out) → Comes s p w
+wrote-comes s p w e out after a c fit =
+    let q = e (out .now) fit in
+    (written-length a (length w) (c .learnt .0 ∙ ap (λ (o : Outcome). o .answer) q), c .learnt .1 ∙ ap (λ (o : Outcome). o .bytes) q)
+
+copied-comes : (s : RefT (List ℕ)) (p : Part) (w : List ℕ) → Copied (s .now) p w → Comes s p w
+unfolding copyPath
+copied-comes s p w e = wrote-comes s p w (λ out fit. rw (e, le-ltb _ _ fit))
+
+-- what is read, taken field by field and written again is the same bytes
+pub read-then-written :
+    (s out after : RefT (List ℕ)) (i : Item) (k : ℕ) (n : Numbers) (v : Slices) (a : Written) → Bytes (s .now) → Reads s i → Taken (Through s) (s .now) i k n (held v)
+    → length (s .now) ≤ length (out .now) → Writes k n v out after a → (a ≡ Length (length (s .now))) × (after .now ≡ s .now ++ drop (length (s .now)) (out .now))
+read-then-written s out after i k n v a bs r h fit w =
+    let q = taken-then-written (s .now) (out .now) i k n (held v) bs (r .learnt) (taken-by (Through s) (Copied (s .now)) (s .now) i k n (held v) (through-copied s) h) fit in
+    (written-length a (length (s .now)) (w .learnt .0 ∙ ap (λ (o : Outcome). o .answer) q), w .learnt .1 ∙ ap (λ (o : Outcome). o .bytes) q)
+
+-- what was written, read again, answers the same fields
+pub written-then-read :
+    (k : ℕ) (n : Numbers) (v : Slices) (out after : RefT (List ℕ)) (m : ℕ) (s : RefT (List ℕ)) (i : Item) → Sized k n → Writes k n v out after (Length m)
+    → s .now ≡ take m (after .now) → Reads s i → Taken (Comes s) (s .now) i k n (held v)
+written-then-read k n v out after m s i z w e r =
+    let b = writeItem k n (held v) (out .now) .bytes in
+    let f : s .now ≡ take m b = e ∙ ap (take m) (w .learnt .1) in
+    let q = written-then-taken k n (held v) (out .now) m i z (sym (w .learnt .0)) (r .learnt ∙ ap readItem f) in
+    taken-by (Copied (s .now)) (Comes s) (s .now) i k n (held v) (copied-comes s) (subst (λ (x : List ℕ). Taken (Copied x) x i k n (held v)) (sym f) q)
+
+-- the path of an item that was read: its hashes as they stand there, and whatever `path_into` answers of it, it has joined these
+abbrev pub PathOf : Item → Part → Type 0
+PathOf (Consistency k l a b p) q = q ≡ p
+PathOf (Inclusion k l z m p) q = q ≡ p
+PathOf (Entry k a b c d) q = ⊥
+PathOf (Receipt k a b c d) q = ⊥
+PathOf (SignedHead k a b c d e f) q = ⊥
+PathOf (Page k a b c d) q = ⊥
+PathOf (Refused x y) q = ⊥
+
+pub record PathComes (s : RefT (List ℕ)) (p : Part) : Type 0 where
+  pub path : List ℕ
+  pub says : Joins (s .now) p path
+  pub comes : Comes s p path
+
+pub path-comes : (s : RefT (List ℕ)) (i : Item) (p : Part) → Reads s i → PathOf i p → PathComes s p
+path-comes s i p r h = go i (r .learnt) h
+  where
+    go : (i : Item) → reading i ≡ readItem (s .now) → PathOf i p → PathComes s p
+    go (Entry k a b c d) e h = absurd h
+    go (Receipt k a b c d) e h = absurd h
+    go (SignedHead k a b c d f g) e h = absurd h
+    go (Page k a b c d) e h = absurd h
+    go (Refused x y) e h = absurd h
+    go (Consistency k a b c q) e h = let y = path-is-said (s .now) _ (sym e) tt in rw h (record { path = y .path; says = y .says; comes = wrote-comes s q (y .path) (y .copied) })
+    go (Inclusion k a b c q) e h = let y = path-is-said (s .now) _ (sym e) tt in rw h (record { path = y .path; says = y .says; comes = wrote-comes s q (y .path) (y .copied) })
