@@ -1,2 +1,3 @@
 -- Laws about the definitions of specs/.
 mod Outcomes
+mod Judging

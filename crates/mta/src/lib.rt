@@ -13,6 +13,7 @@ ghost use Rattle.item.specs.Item.{reading, readItem, writing};
 ghost use Rattle.carry.specs.Forward.{carry, pathAfter, pairAfter, report as carryReport};
 ghost use Rattle.carry.specs.Compare.{compare, report as compareReport, pairAfter as comparePair};
 ghost use Rattle.mta.specs.Entries.{writtenAfter, collidedAfter, differedAfter, numberOf, placeOf, lengthAfter, sizesOf, consistencyWritten};
+ghost use Rattle.mta.specs.Judged.{ItemsAreJudged};
 ghost use Rattle.mta.specs.Slices.{nodeNumber, nodeBytes, wordsOf, wordsNumber, wordsAfter, scheduleAfter};
 use carry::compare::Compared;
 use carry::forward::Carried;
@@ -358,3 +359,8 @@ pub extern "C" fn mta_step(state: &mut [u32], block: &[u8], w: &mut [u32]) -> u3
     }
     0
 }
+
+// What is proved where items meet verdicts. It does nothing.
+pub fn claims()
+    ensures items_are_judged { λ _. ⌜ ItemsAreJudged ⌝ }
+{}
