@@ -231,7 +231,7 @@ fn rounds(code: &dyn Code, seed: u64, count: u64, is_sought: bool) -> Hold<'_> {
         record_round(&mut hold, random);
         #[cfg(journal)]
         journal_round(&mut hold, random);
-        if turn % 20 == 0 {
+        if turn % 25 == 0 {
             list_round(&mut hold, random);
         }
         if is_sought && hold.failed > 0 {
@@ -293,6 +293,8 @@ fn main() {
         tally.count(COMPARED.contains(name), || format!("public, and not compared: {name}"));
     }
     translation(&mut tally);
+    let is_full = WANTED.lines().count() > 120 && variants::CODES.len() > 20;
+    tally.count(is_full, || "kinds or wrong programs are gone".to_string());
 
     let hold = rounds(variants::CODES[0].1, seed, count, false);
     hold.shown.iter().for_each(|one| println!("DISAGREEMENT: {one}"));

@@ -12,7 +12,8 @@ pub fn own_tests() -> Vec<(&'static str, bool)> {
         "#[inline]\nfn f() {}\n",
         "ghost fn f() {}\n",
         "ghost use a.b.{c}; fn f() {}\n",
-        "ghost use a.b.{c,\n    d};\n",
+        "ghost use a.b.{c,\nfn f() {\n    1;\n}\n",
+        "ghost use a.b\nfn f() {}\n",
         "extern \"C\" {}\n",
         "pub extern \"C\" fn f() {}\n",
         "static X: u8 = 1;\n",
@@ -27,8 +28,9 @@ pub fn own_tests() -> Vec<(&'static str, bool)> {
         "mod m { fn f() {} }\n",
         "let x = 1;\n",
     ];
-    let taken = "// why\nghost use a.b.{c};\npub(crate) struct S {\n    pub a: [u8; 2],\n}\nfn f<'a>(s: &'a [u8]) -> [u8; 2]\n    requires { ⌜ x ⌝ }\n    \
-                 ensures it_holds { λ r. ⌜ r .{a} ⌝ }\n{\n    let x = b\"\\\"}\";\n    crate::g(b'}', x)\n}\n";
+    let taken = "// why\nghost use a.b.{c};\nghost use a.b.{\n    d,\n};\npub(crate) struct S {\n    pub a: [u8; 2],\n}\n\
+                 fn f<'a>(s: &'a [u8]) -> [u8; 2]\n    requires { ⌜ x ⌝ }\n    ensures it_holds { λ r.\n        ⌜ r .{a} ⌝ }\n\
+                 {\n    let x = b\"\\\"}\";\n    crate::g(b'}', x)\n}\n";
     refused.into_iter().map(|text| (text, false)).chain([(taken, true)]).collect()
 }
 

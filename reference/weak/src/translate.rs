@@ -68,9 +68,12 @@ impl Crate<'_> {
     /// A line of code that does not come out, in the order of the lines: found by the lines alone.
     fn lost<'a>(&self, text: &'a str, out: &str) -> Option<&'a str> {
         let mut at = 0;
+        // Open braces of a clause, or of a `ghost use`.
+        let mut depth = 0;
         text.lines().find(|line| {
             let code = line.split("//").next().unwrap().trim();
-            if ["ghost use ", "requires ", "ensures "].iter().any(|word| code.starts_with(word)) {
+            if depth > 0 || ["ghost ", "requires ", "ensures "].iter().any(|word| code.starts_with(word)) {
+                depth = (depth + line.matches('{').count()).saturating_sub(line.matches('}').count());
                 return false;
             }
             let is_module = ["mod ", "pub mod "].iter().any(|word| code.starts_with(word));
@@ -321,7 +324,7 @@ impl<'a> Reader<'a> {
             }
             if depth == 0 {
                 let clause = &self.text[self.at..self.at + at + 1];
-                if clause.contains(';') || ["let mut ", "while ", "return "].iter().any(|code| clause.contains(code)) {
+                if ["let mut ", "while ", "return "].iter().any(|code| clause.contains(code)) {
                     return Err("code in a clause".to_string());
                 }
                 self.at += at + 1;
@@ -335,10 +338,12 @@ impl<'a> Reader<'a> {
         Err("a clause without an end".to_string())
     }
 
-    /// `ghost use .. ;`, on one line. It is not copied.
+    /// `ghost use .. ;`, which ends its line. It is not copied.
     fn ghost_line(&mut self) -> Result<(), String> {
-        let line = self.text[self.at..].lines().next().unwrap();
-        if !line.starts_with("ghost use ") || line.find(';') != Some(line.len() - 1) {
+        let rest = &self.text[self.at..];
+        let line = &rest[..1 + rest.find(';').ok_or("a `ghost use` without an end")?];
+        let is_whole = line.matches('{').count() == line.matches('}').count() && rest[line.len()..].starts_with('\n');
+        if !line.starts_with("ghost use ") || !is_whole {
             return Err(format!("not a whole `ghost use`: {line}"));
         }
         self.at += line.len();
