@@ -341,6 +341,26 @@ pub fn write(kind: u16, fields: &Fields, lent: &mut [u8]) -> Result<usize, Refus
     }
 }
 
+/// The hashes of a path that lies at `start`, `length` bytes long, as joined hashes
+/// into a lent buffer; how many bytes were written. Any numbers may be given: a
+/// part that isn't in the bytes is cut short, and its elements are read as the
+/// reader reads them; the buffer is asked for last.
+pub fn path_into(bytes: &[u8], start: usize, length: usize, lent: &mut [u8]) -> Result<usize, Refusal> {
+    let Some(part) = start.checked_add(length).and_then(|end| bytes.get(..end)) else { return refuse(2, start) };
+    let mut elements = Reader { bytes: part, at: start };
+    let mut joined = Vec::new();
+    while elements.left() > 0 {
+        joined.extend_from_slice(&bytes[elements.hash()?]);
+    }
+    match lent.get_mut(..joined.len()) {
+        None => refuse(9, 0),
+        Some(room) => {
+            room.copy_from_slice(&joined);
+            Ok(joined.len())
+        }
+    }
+}
+
 /// The newer of two signed heads: larger size, then later timestamp, then the
 /// first. The empty part at the start of the first where either isn't a
 /// readable head, or the log ids differ.
@@ -504,6 +524,38 @@ mod tests {
         // A field that the type lacks isn't looked at.
         longest.signature.clear();
         assert!(encode(0x0105, &longest).is_ok());
+    }
+
+    #[test]
+    fn path_joined() {
+        let bytes = encode(0x0106, &sample()).unwrap();
+        let Ok((_, Item::Inclusion { path, .. })) = read(&bytes) else { panic!() };
+        let (start, length) = (path.start, path.len());
+        let copy = |bytes: &[u8], start, length, room| {
+            let mut lent = vec![7; room];
+            (path_into(bytes, start, length, &mut lent), lent)
+        };
+        assert_eq!(copy(&bytes, start, length, 66), (Ok(64), [&[0x55; 64][..], &[7; 2]].concat()));
+        assert_eq!(copy(&bytes, start + 33, 33, 32), (Ok(32), vec![0x55; 32]));
+        assert_eq!(copy(&bytes, start, 0, 0), (Ok(0), vec![]));
+        assert_eq!(copy(&bytes, bytes.len(), 0, 1), (Ok(0), vec![7]));
+        for (start, length, room, number, place) in [
+            (start, length, 63, 9, 0),
+            (start, length + 1, 64, 2, start),
+            (start + 1, length, 64, 2, start + 1),
+            (bytes.len() + 1, 0, 64, 2, bytes.len() + 1),
+            (usize::MAX, 2, 64, 2, usize::MAX),
+            (start, usize::MAX, 64, 2, start),
+            (start, length - 1, 0, 2, start + 33),
+            (start + 1, length - 1, 0, 5, start + 1),
+        ] {
+            assert_eq!(copy(&bytes, start, length, room), (refuse(number, place), vec![7; room]));
+        }
+        let mut other = bytes.clone();
+        other[start + 33] = 31;
+        assert_eq!(copy(&other, start, length, 0), (refuse(5, start + 33), vec![]));
+        // What was copied is what the writer is given for the same bytes.
+        assert_eq!(copy(&bytes, start, length, 64).1, Fields::of(&bytes, &read(&bytes).unwrap().1).path);
     }
 
     #[test]

@@ -1,4 +1,4 @@
-//! Log items: read, written, and the newer of two heads.
+//! Log items: read, written, their paths joined, and the newer of two heads.
 
 use crate::item::{self, encode, Fields, Item, Span};
 use crate::random::Random;
@@ -11,6 +11,7 @@ pub const LAYER: Layer = Layer {
         Entry { name: "read", answer: read, random: random_read },
         Entry { name: "write", answer: write, random: random_write },
         Entry { name: "newer", answer: newer, random: random_newer },
+        Entry { name: "path_into", answer: path_into, random: random_path },
     ],
     lists: None,
     cases,
@@ -104,6 +105,24 @@ fn write(words: &[Word]) -> Option<Vec<Word>> {
 fn newer(words: &[Word]) -> Option<Vec<Word>> {
     let [first, second] = words else { return None };
     Some(vec![bytes(item::newer(first.as_bytes()?, second.as_bytes()?))])
+}
+
+/// Any numbers are a part.
+fn path_into(words: &[Word]) -> Option<Vec<Word>> {
+    let [input, start, length, lent] = words else { return None };
+    let input = input.as_bytes()?;
+    let (start, length) = (start.as_number()? as usize, length.as_number()? as usize);
+    let mut lent = lent.as_bytes()?.to_vec();
+    let (refusal, place, count) = match item::path_into(input, start, length, &mut lent) {
+        Ok(count) => {
+            // Each hash, with its length in front, is what stands there.
+            let elements: Vec<u8> = lent[..count].chunks(32).flat_map(|hash| [&[32], hash].concat()).collect();
+            assert_eq!(elements, input[start..start + length]);
+            (0, 0, count)
+        }
+        Err(refusal) => (refusal.number, refusal.place, 0),
+    };
+    Some(vec![number(refusal), number(place as u64), number(count as u64), bytes(&lent)])
 }
 
 // Requests.
@@ -441,6 +460,81 @@ fn newer_cases(requests: &mut Requests, random: &mut Random) {
     }
 }
 
+fn ask_path(requests: &mut Requests, input: &[u8], start: usize, length: usize, lent: usize) {
+    requests.ask("path_into", &[short(input), number(start as u64), number(length as u64), repeated(lent, 0xee)]);
+}
+
+/// Where the vectors of a whole item lie.
+fn vectors(input: &[u8]) -> Vec<Span> {
+    let (_, item) = item::read(input).expect("a whole item");
+    let vector = |part| match part {
+        Part::Vector(span) => Some(span),
+        Part::Number(_) => None,
+    };
+    parts(&item).into_iter().filter_map(vector).collect()
+}
+
+/// Numbers that are no place of any bytes, and sums that don't fit.
+const WILD: [usize; 5] = [1 << 32, 1 << 63, (1 << 63) + 1, usize::MAX - 1, usize::MAX];
+
+fn path_cases(requests: &mut Requests, counts: &[usize], random: &mut Random) {
+    for kind in [0x0105, 0x0106] {
+        for &count in counts {
+            let input = encode(kind, &Fields { path: random.bytes(32 * count), ..middle(random) }).unwrap();
+            let path = vectors(&input).pop().unwrap();
+            let (start, length, joined) = (path.start, path.len(), 32 * count);
+            for lent in [joined, joined + 5, joined.saturating_sub(1), joined / 2, 0] {
+                ask_path(requests, &input, start, length, lent);
+            }
+            // Parts beside it, and some of its elements alone.
+            for (start, length) in [
+                (start, length + 1),
+                (start, length.saturating_sub(1)),
+                (start, length / 66 * 33),
+                (start + 33, length.saturating_sub(33)),
+                (start + 1, length.saturating_sub(1)),
+                (start - 1, length + 1),
+                (start - 1, length),
+                (start - 2, length + 2),
+                (0, input.len()),
+                (start, 0),
+                (input.len(), 0),
+                (input.len() + 1, 0),
+                (input.len(), 1),
+            ] {
+                ask_path(requests, &input, start, length, joined);
+                ask_path(requests, &input, start, length, 0);
+            }
+            // Each element's length changed.
+            for at in path.clone().step_by(33) {
+                for byte in [0, 31, 33, 255] {
+                    ask_path(requests, &with_byte(&input, at, byte), start, length, joined);
+                }
+                ask_path(requests, &with_byte(&input, at, 31), start, length, 0);
+            }
+            for wild in WILD {
+                ask_path(requests, &input, wild, length, joined);
+                ask_path(requests, &input, start, wild, joined);
+                ask_path(requests, &input, wild, wild, joined);
+                ask_path(requests, &input, wild, wild.wrapping_neg(), joined);
+                ask_path(requests, &input, start, wild.wrapping_sub(start), joined);
+            }
+        }
+    }
+    // Vectors that are no path.
+    for kind in KINDS {
+        let input = encode(kind, &middle(random)).unwrap();
+        for part in vectors(&input) {
+            ask_path(requests, &input, part.start, part.len(), 64);
+        }
+    }
+    // Hashes of which every byte is their length.
+    for count in [0, 1, 32, 33, 34, 65, 66, 67, 660] {
+        ask_path(requests, &vec![32; count], 0, count, count);
+        ask_path(requests, &vec![32; count], 1, count.saturating_sub(1), 10);
+    }
+}
+
 /// The papers' item of 23 bytes, whole and spoilt.
 fn papers_cases(requests: &mut Requests) {
     let whole = read_hex(b"0106022a030000000000000001000000000000000000").unwrap();
@@ -484,6 +578,7 @@ fn cases(requests: &mut Requests) {
     }
     write_cases(requests, &LAYOUTS, random);
     newer_cases(requests, random);
+    path_cases(requests, &[0, 1, 2], &mut Random::new(414));
 
     lines_that_are_no_request(requests, "read");
     for line in [
@@ -502,6 +597,14 @@ fn cases(requests: &mut Requests) {
         "write 256 0 0 x x x x 0 0 0 x x 0 0 x x",
         "write 256 0 x x x x x 0 0 0 x x 0 x x x",
         "write 256 0 x x x x x 0 0 0 x x 0 0 x 0",
+        "path_into",
+        "path_into x 0 0",
+        "path_into x 0 0 x x",
+        "path_into 0 0 0 x",
+        "path_into x x 0 x",
+        "path_into x 0 x x",
+        "path_into x 0 0 0",
+        "path_into x 18446744073709551616 0 x",
     ] {
         requests.line(line.as_bytes());
     }
@@ -555,6 +658,13 @@ fn full(requests: &mut Requests) {
             }
         }
     }
+    // The longest path.
+    let input = encode(0x0106, &Fields { path: vec![9; item::LONGEST_PATH], ..smallest(6) }).unwrap();
+    let path = vectors(&input).pop().unwrap();
+    for lent in [item::LONGEST_PATH, item::LONGEST_PATH - 1] {
+        ask_path(requests, &input, path.start, path.len(), lent);
+    }
+    path_cases(requests, &[0, 1, 2, 7, 31, 33, 100], random);
     // Written: longest fields of repeated bytes.
     let mut long = smallest(6);
     long.log_id = vec![1; 127];
@@ -639,6 +749,48 @@ fn random_write(random: &mut Random) -> Vec<Word> {
     write_words(kind, &fields, repeated(lent, byte))
 }
 
+/// A vector of an item, most often its path; then, mostly, one small change of the
+/// bytes, or of the part.
+fn random_path(random: &mut Random) -> Vec<Word> {
+    let kind = if random.one_in(5) { *random.pick(&KINDS) } else { *random.pick(&[0x0105, 0x0106]) };
+    let mut input = encode(kind, &random_fields(random)).unwrap();
+    let all = vectors(&input);
+    let part = if random.one_in(10) { random.pick(&all).clone() } else { all[all.len() - 1].clone() };
+    let (mut start, mut length) = (part.start, part.len());
+    match random.below(8) {
+        0 => damage(&mut input, random),
+        1 => length = length.wrapping_add(*random.pick(&[1, 2, 33, 66, usize::MAX, usize::MAX - 32])),
+        2 => start = start.wrapping_add(*random.pick(&[1, 2, 33, usize::MAX, usize::MAX - 32])),
+        3 => {
+            let elements = length / 33;
+            let first = random.below(elements as u64 + 1) as usize;
+            start += 33 * first;
+            length = 33 * random.below((elements - first) as u64 + 1) as usize;
+        }
+        4 if length > 0 => {
+            let at = part.start + 33 * random.below(length.div_ceil(33) as u64) as usize;
+            input[at] = *random.pick(&[0, 31, 33, 64, 255]);
+        }
+        5 => {
+            let wild = random.draw() >> random.below(64);
+            match random.below(3) {
+                0 => start = wild as usize,
+                1 => length = wild as usize,
+                _ => (start, length) = (wild as usize, (wild as usize).wrapping_neg()),
+            }
+        }
+        _ => (),
+    }
+    let joined = part.len() / 33 * 32;
+    let lent = match random.below(4) {
+        0 => random.below(joined as u64 + 40) as usize,
+        1 => joined.saturating_sub(1),
+        _ => joined,
+    };
+    let byte = random.byte();
+    vec![bytes(&input), number(start as u64), number(length as u64), repeated(lent, byte)]
+}
+
 fn random_newer(random: &mut Random) -> Vec<Word> {
     let log_id = random.bytes(3);
     let mut heads = Vec::new();
@@ -681,6 +833,12 @@ mod tests {
         assert_eq!(ask("write 263 0 x2a x x x x 1 9 0 x x 0 0 x 1*07"), "4 0 0 x07\n");
         assert_eq!(ask("write 65536 0 x2a x x x x 1 9 0 x x 0 0 x 1*07"), "?\n");
         assert_eq!(ask("newer x x"), "x\n");
+        let element = format!("20{}", "ab".repeat(32));
+        assert_eq!(ask(&format!("path_into x00{element}{element} 1 66 65*07")), format!("0 0 64 x{}07\n", "ab".repeat(64)));
+        assert_eq!(ask(&format!("path_into x00{element}{element} 0 66 2*07")), "5 0 0 x0707\n");
+        assert_eq!(ask(&format!("path_into x00{element}{element} 1 65 2*07")), "2 34 0 x0707\n");
+        assert_eq!(ask(&format!("path_into x00{element}{element} 1 66 2*07")), "9 0 0 x0707\n");
+        assert_eq!(ask("path_into x 18446744073709551615 18446744073709551615 x"), "2 18446744073709551615 0 x\n");
     }
 
     #[test]
