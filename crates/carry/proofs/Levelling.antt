@@ -5,6 +5,7 @@ use mathlib.Core.Bool.{Bool, true, false, cond}
 use mathlib.Core.List.{List, [], _∷_}
 use Prim.Native.Nat.{ℕ, zero, suc, _+_, _-_, _^_, _≤_, _<_}
 use native.Mathlib.Omega.{arith}
+use native.Mathlib.Nat.{eq-or-lt-of-le}
 use lib.Dec.{leb, eqb}
 use lib.ListN.{length, take, getD}
 use borrow.Author.Tests.{lt-ltb, le-ltb}
@@ -14,12 +15,16 @@ use Rattle.tree.specs.Yield.{init, last, inclusionRoot, consistencyRootOf, oldR
 use Rattle.tree.specs.Count.{inclusionCountOf}
 use Rattle.tree.proofs.Splitting.{lt-or-ge, split-ends, split-same, shape-fork, by-splits}
 use Rattle.tree.proofs.Rfc.{size-left}
+use Rattle.tree.specs.Joined.{nodes}
 use Rattle.tree.proofs.Joining.{same-of}
+use Rattle.tree.proofs.Accepting.{inclusion-accepted, consistency-accepted}
 use Rattle.carry.specs.Strings.{string, Difference, alike, apart, topmost}
 use Rattle.carry.specs.Compare.{differOf, differ}
 use Rattle.carry.specs.Forward.{conflict}
-use Rattle.carry.specs.Levels.{First, Finds, aboveOf, subtreesOf, subtrees, inclusionStringsOf, inclusionStrings, together, togetherStrings, Levelled}
+use Rattle.carry.specs.Levels.{First, Finds, aboveOf, subtreesOf, subtrees, inclusionStringsOf, inclusionStrings, together, togetherStrings, inclusionLevels, consistencyLevels, Levelled}
 use Rattle.carry.proofs.Pairing.{same-cases, not-same, differs, top-same, top-apart}
+use Rattle.carry.proofs.Comparing as compare
+use Rattle.carry.proofs.Carrying as carry
 use Rattle.carry.proofs.Stepping.{conflict-all, conflict-low, conflict-here, conflict-beyond}
 use Rattle.carry.proofs.Subtrees.{Within, narrowed, above-full, above-here, above-beyond, subtrees-low, subtrees-high, subtrees-some, Bits, bits, own}
 
@@ -223,14 +228,35 @@ module _ (H : List ℕ → List ℕ) where
       (lt-or-ge (split n) m))
       (λ e. met-all n m x b h p f q xm e) w)
 
+  compares : (m n : ℕ) (h : List ℕ) (p : List (List ℕ)) (g : List ℕ) (q : List (List ℕ)) → Finds (inclusionStrings H m n h p) (inclusionStrings H m n g q) (differ H m n h p g q)
+  unfolding differ inclusionStrings
+  compares m n h p g q =
+      finds (inclusionStringsOf H (shape n) m h p) (inclusionStringsOf H (shape n) m g q) _ (strings-length H (shape n) m h p ∙ sym (strings-length H (shape n) m g q)) (differ-first H (shape n) m h p g q)
+
+  carries : (m n x : ℕ) (h : List ℕ) (p : List (List ℕ)) (f : List ℕ) (q : List (List ℕ)) → x < m → m < n → Finds (inclusionLevels H m x h p) (consistencyLevels H m n x f q) (conflict H m n x h p f q)
+  unfolding subtrees Met Within
+  carries m n x h p f q xm lt =
+      let r = met n (omega arith) m x true h p f q xm (inl lt) in
+      finds _ _ _ (r .1 .0 ∙ sym (r .1 .1)) (r .0)
+
+  -- a size to itself brings no strings
+  apart-later : (m n x : ℕ) (h : List ℕ) (p : List (List ℕ)) (f : List ℕ) (q : List (List ℕ)) (s t : List ℕ) → x < m → m ≤ n → conflict H m n x h p f q ≡ apart s t → m < n
+  apart-later m n x h p f q s t xm le e = ⊎-elim (λ d. absurd (apart-alike s t (sym e ∙ conflict-all H m n x h p f q (omega arith) d))) (λ lt. lt) (eq-or-lt-of-le le)
+
   pub levelled : Levelled H
-  unfolding differ inclusionStrings subtrees oldRoot Bits Met Within
+  unfolding subtrees oldRoot Bits Met Within
   levelled = record {
-    compares = λ m n h p g q.
-        finds (inclusionStringsOf H (shape n) m h p) (inclusionStringsOf H (shape n) m g q) _ (strings-length H (shape n) m h p ∙ sym (strings-length H (shape n) m g q)) (differ-first H (shape n) m h p g q);
-    carries = λ m n x h p f q xm lt.
-        let r = met n (omega arith) m x true h p f q xm (inl lt) in
-        finds _ _ _ (r .1 .0 ∙ sym (r .1 .1)) (r .0);
+    compares = compares;
+    carries = carries;
+    compared = λ place size claimed leaf₁ path₁ leaf₂ path₂ pair s t e.
+        let a = compare.handed H place size claimed leaf₁ path₁ leaf₂ path₂ pair s t e in
+        compares place size leaf₁ (nodes path₁) leaf₂ (nodes path₂) .topmost s t .0 (a .1 .1);
+    carried = λ leaf place m n claimed₁ claimed₂ path proof room pair s t e.
+        let a = carry.handed H leaf place m n claimed₁ claimed₂ path proof room pair s t e in
+        let i = inclusion-accepted H leaf place m claimed₁ path (a .0) in
+        let c = consistency-accepted H m n claimed₁ claimed₂ proof (a .1 .0) in
+        let lt = apart-later m n place leaf (nodes path) claimed₁ (nodes proof) s t (i .below) (c .order) (a .1 .1) in
+        carries m n place leaf (nodes path) claimed₁ (nodes proof) (i .below) lt .topmost s t .0 (a .1 .1);
     whole = λ m n x f q xm lt. met n (omega arith) m x true [] [] f q xm (inl lt) .1 .1;
     own = own H;
     one-bits = λ m n f q z lt. bits n (omega arith) m true f q z (inl lt);

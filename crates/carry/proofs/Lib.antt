@@ -1,4 +1,4 @@
-pub mod Computing
+pub mod Calculating
 pub mod Enums
 pub mod Refusing
 pub mod Levels

@@ -12,9 +12,10 @@ use lib.ListN.{length, take, drop, getD}
 use Rattle.tree.specs.Split.{Shape, one, fork, size, shape}
 use Rattle.tree.specs.Tree.{node, rootOf, root, consistency}
 use Rattle.tree.specs.Yield.{init, last, inclusionRootOf, oldRoot}
+use Rattle.tree.specs.Joined.{nodes}
 use Rattle.carry.specs.Strings.{string, Difference, alike, apart}
-use Rattle.carry.specs.Compare.{differ}
-use Rattle.carry.specs.Forward.{conflict}
+use Rattle.carry.specs.Compare.{Comparison, differ, compare}
+use Rattle.carry.specs.Forward.{Forward, conflict, carry}
 
 -- s and t are the topmost of the strings ss and ts that differ: all above them are equal
 pub record First (ss ts : List (List ℕ)) (s t : List ℕ) : Type 0 where
@@ -91,6 +92,15 @@ module _ (H : List ℕ → List ℕ) where
     pub carries :
         (m n x : ℕ) (h : List ℕ) (p : List (List ℕ)) (f : List ℕ) (q : List (List ℕ)) → x < m → m < n →
         Finds (inclusionLevels m x h p) (consistencyLevels m n x f q) (conflict H m n x h p f q)
+    -- so what a comparison and a carrying hand over, on bytes, is the topmost pair that differs
+    pub compared :
+        (place size : ℕ) (claimed leaf₁ path₁ leaf₂ path₂ : List ℕ) (pair : ℕ) (s t : List ℕ) →
+        compare H place size claimed leaf₁ path₁ leaf₂ path₂ pair ≡ Comparison.collision s t →
+        First (inclusionStrings place size leaf₁ (nodes path₁)) (inclusionStrings place size leaf₂ (nodes path₂)) s t
+    pub carried :
+        (leaf : List ℕ) (place m n : ℕ) (claimed₁ claimed₂ path proof : List ℕ) (room pair : ℕ) (s t : List ℕ) →
+        carry H leaf place m n claimed₁ claimed₂ path proof room pair ≡ Forward.collision s t →
+        First (inclusionLevels m place leaf (nodes path)) (consistencyLevels m n place claimed₁ (nodes proof)) s t
     -- every level down to S is there
     pub whole : (m n x : ℕ) (f : List ℕ) (q : List (List ℕ)) → x < m → m < n → length (consistencyLevels m n x f q) ≡ aboveOf (shape m) x
     -- a list's own consistency path splits its first m leaves into their full subtrees

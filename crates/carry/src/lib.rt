@@ -21,10 +21,10 @@ ghost use Rattle.carry.specs.Levels.{Levelled};
 // What is proved of carrying and comparing beside their own promises: over any hash of 32-byte values, of the paper's cases, of examples with
 // collisions, and that what the answers tell loses nothing. It does nothing.
 pub fn claims()
-    ensures carrying { λ _. ⌜ OfAnyHash Carrying ⌝ }
-    ensures honest { λ _. ⌜ OfAnyHash Honest ⌝ }
-    ensures comparing { λ _. ⌜ OfAnyHash Comparing ⌝ }
-    ensures levelled { λ _. ⌜ OfAnyHash Levelled ⌝ }
+    ensures carries { λ _. ⌜ OfAnyHash Carrying ⌝ }
+    ensures honest_list { λ _. ⌜ OfAnyHash Honest ⌝ }
+    ensures compares { λ _. ⌜ OfAnyHash Comparing ⌝ }
+    ensures topmost { λ _. ⌜ OfAnyHash Levelled ⌝ }
     ensures starred { λ _. ⌜ Starred ⌝ }
     ensures collisions { λ _. ⌜ Collisions ⌝ }
     ensures carrying_loses_nothing { λ _. ⌜ Faithful carrying ⌝ }

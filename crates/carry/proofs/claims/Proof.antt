@@ -1,7 +1,7 @@
 -- `carry::claims`: what carrying and comparing keep. Assumes nothing.
+use Rattle.carry.proofs.Calculating.{collisions}
 use Rattle.carry.proofs.Carrying.{carrying}
 use Rattle.carry.proofs.Comparing.{comparing}
-use Rattle.carry.proofs.Computing.{collisions}
 use Rattle.carry.proofs.Enums.{carrying-faithful, comparing-faithful}
 use Rattle.carry.proofs.Honest.{honest}
 use Rattle.carry.proofs.Levelling.{levelled}

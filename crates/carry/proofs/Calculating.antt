@@ -1,4 +1,4 @@
--- The examples, computed. Assumes nothing.
+-- The examples, calculated. Assumes nothing.
 use mathlib.Core.Path.{refl}
 use Rattle.tree.specs.Split.{doubled, split, size, shapeIn, shape}
 use Rattle.tree.specs.Tree.{node}
