@@ -8,7 +8,8 @@ use Rattle.item.specs.declared.layout.Part.{Part}
 use Rattle.item.specs.declared.table.Case.{Case}
 use Rattle.item.specs.declared.table.Case.the-variants.{Entry, Receipt, SignedHead, Consistency, Inclusion, Page}
 use Rattle.item.specs.declared.reader.Item.{Item}
-use Rattle.item.specs.declared.reader.Item.the-variants.{Entry as entry, Receipt as receipt, SignedHead as signedHead, Consistency as consistency, Inclusion as inclusion, Page as page, Refused as refused}
+use Rattle.item.specs.declared.reader.Item.the-variants.{Entry as entry, Receipt as receipt, SignedHead as signedHead, Consistency as consistency}
+use Rattle.item.specs.declared.reader.Item.the-variants.{Inclusion as inclusion, Page as page, Refused as refused}
 use Rattle.item.specs.declared.heads.Choice.the-variants.{Neither}
 use Rattle.item.specs.declared.writer.Numbers.{Numbers}
 use Rattle.item.specs.Answer.{good, bad}
@@ -99,7 +100,8 @@ CopiedIsJoined = (s : List ℕ) (p : Part) (w : List ℕ) → pathAt s p ≡ goo
 -- and whatever part holds such hashes is copied
 abbrev pub JoinedIsCopied : Type 0
 JoinedIsCopied =
-    (s : List ℕ) (p : Part) (hs : List (List ℕ)) → p .start + p .len ≤ length s → Each (λ h. length h ≡ 32) hs → cut s p ≡ encoded hs → pathAt s p ≡ good (joined hs)
+    (s : List ℕ) (p : Part) (hs : List (List ℕ)) → p .start + p .len ≤ length s → Each (λ h. length h ≡ 32) hs → cut s p ≡ encoded hs
+    → pathAt s p ≡ good (joined hs)
 
 -- a refused copy changes no byte; otherwise the bytes past those written stay
 abbrev pub CopyKeeps : Type 0
@@ -134,7 +136,8 @@ PathIsSaid = (s : List ℕ) (r : Reading) → readItem s ≡ good r → HasPath 
 -- a path what P says of its part.
 abbrev pub Taken : (Part → List ℕ → Type 0) → List ℕ → Item → ℕ → Numbers → Vectors → Type 0
 Taken P s (entry kind timestamp issuerKeyHash certificate extensions) k n t =
-    (k ≡ kind) × (n .timestamp ≡ timestamp .value) × (t .issuerKeyHash ≡ cut s issuerKeyHash) × (t .certificate ≡ cut s certificate) × (t .extensions ≡ cut s extensions)
+    (k ≡ kind) × (n .timestamp ≡ timestamp .value) × (t .issuerKeyHash ≡ cut s issuerKeyHash) × (t .certificate ≡ cut s certificate)
+    × (t .extensions ≡ cut s extensions)
 Taken P s (receipt kind logId timestamp extensions signature) k n t =
     (k ≡ kind) × (t .logId ≡ cut s logId) × (n .timestamp ≡ timestamp .value) × (t .extensions ≡ cut s extensions) × (t .signature ≡ cut s signature)
 Taken P s (signedHead kind logId timestamp size rootHash extensions signature) k n t =

@@ -1,9 +1,7 @@
 use mathlib.Core.Path.{_≡_, refl, ap, _∙_}
-use mathlib.Core.List.{List}
-use Prim.Native.Nat.{ℕ, _+_, _-_, _*_, _≤_, _<_}
+use Prim.Native.Nat.{_-_, _*_, _≤_}
 use native.Mathlib.Omega.{arith}
 use lib.ListN.{length, take, drop, length-drop}
-use lib.Seq.{length-take-le}
 use borrow.Author.Needs.{needs}
 use Rattle.item.specs.Write.{stripped}
 use Rattle.item.specs.Steps.{put}
@@ -40,11 +38,7 @@ slice-aggregate-copy-at : tie.Need-slice-aggregate-copy-at Inv-loop μ-loop
 slice-aggregate-copy-at c = search needs
 
 copy-at-requires : tie.Need-copy-at-requires Inv-loop μ-loop
-copy-at-requires c κs =
-    let l = c .before .before .before .before in
-    let a = l .before .before .before .args in
-    let h : length (c .before .before .hash-at .result) ≡ 32 = ap length (c .before .before .hash-at .ensures) ∙ length-take-le 32 (drop (a .start + l .loop .k * 33 + 1) (a .s .now)) (rw length-drop (omega arith)) in
-    omega arith
+copy-at-requires c κs = omega arith
 
 add-k : tie.Need-add-k Inv-loop μ-loop
 add-k c = omega arith
