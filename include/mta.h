@@ -4,12 +4,14 @@
  * Every function takes any bytes and any numbers. It answers MTA_OK, or the number of its first
  * refusal, in the order in which its comment lists them; mta_refusal says it in words.
  *
- * A refusal changes nothing that is lent: no byte of out, pair, state or schedule, and what written
- * and collided point to keeps its value. Only place is set by a refusal. These three are not NULL.
+ * A refusal changes nothing that is lent: no byte of out, pair, state or schedule, and *written and
+ * *collided keep their values. Only *place is set by a refusal. written, collided and place are not
+ * NULL.
  *
- * What a call may write (out, pair, state, schedule, written, collided, place) must overlap neither
- * what it reads nor one another, as MTA_RESTRICT says. Where it does nothing is promised: with out
- * inside proof, mta_carry answers MTA_OK and leaves a wrong path. What is only read may overlap.
+ * What a call may write (out, pair, state, schedule, *written, *collided, *place) must overlap
+ * neither what it reads nor one another, as MTA_RESTRICT says; of overlapping buffers nothing is
+ * promised (with out inside proof, mta_carry answers MTA_OK and leaves a wrong path). What is only
+ * read may overlap.
  *
  * A path is its nodes joined, 32 bytes each, so a node of another length is not seen: one of 16 bytes
  * and one of 48 pass as two. A caller who holds a list of nodes checks each before joining them. */

@@ -8,8 +8,9 @@ use Rattle.sha256.specs.declared.State.{State}
 use Rattle.sha256.specs.Sha256.{compress, initial}
 use Rattle.hash.specs.Message.{hashValue, wordBytes, stateBytes}
 use Rattle.hash.specs.Digest.{sha256}
+use Rattle.hash.specs.Claims.{Has32, AreBytes}
 
-pub sha256-length : (m : List ℕ) → length (sha256 m) ≡ 32
+pub sha256-length : Has32
 unfolding sha256 stateBytes
 sha256-length m = refl
 
@@ -33,6 +34,6 @@ unfolding stateBytes
 state-bytes s =
     word-bytes (s .a) (word-bytes (s .b) (word-bytes (s .c) (word-bytes (s .d) (word-bytes (s .e) (word-bytes (s .f) (word-bytes (s .g) (word-bytes (s .h) none)))))))
 
-pub sha256-bytes : (m : List ℕ) (i : ℕ) → getD (sha256 m) i 0 < 256
+pub sha256-bytes : AreBytes
 unfolding sha256
 sha256-bytes m = at (state-bytes (hashValue compress initial m))

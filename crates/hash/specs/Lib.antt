@@ -1,6 +1,7 @@
--- What a reader must believe of this crate, in the order of FIPS 180-4: the padded message and its blocks (5.1.1, 5.2.1, 6.2), the digest, and what the
--- public functions answer and leave. The block step is the crate sha256's.
+-- What a reader must believe of this crate, in the order of FIPS 180-4: the padded message and its blocks (5.1.1, 5.2.1, 6.2), the digest, what the public
+-- functions answer and leave, and what is claimed of its values. The block step is the crate sha256's.
 pub mod Message
 pub mod Digest
 pub mod Answers
+pub mod Claims
 pub mod Inner

@@ -7,6 +7,7 @@ ghost use mathlib.Core.List.{[], _++_};
 ghost use Prim.Native.Nat.{_≤_, _<_};
 ghost use lib.ListN.{length};
 ghost use Rattle.hash.specs.Digest.{sha256, leafHash, nodeHash};
+ghost use Rattle.hash.specs.Claims.{Has32, AreBytes};
 ghost use Rattle.hash.specs.Answers.{mostInput, mostItem, valueNumber, valueBytes, intoNumber, intoBytes};
 use message::bytes_of;
 use message::hash_of;
@@ -116,3 +117,9 @@ pub fn leaf_into(item: &[u8], out: &mut [u8]) -> u32
 {
     into(MOST_ITEM, b"\x00", item, out)
 }
+
+// What the layers above may use of SHA-256 beside the contracts. It does nothing.
+pub fn claims()
+    ensures has_32 { λ _. ⌜ Has32 ⌝ }
+    ensures are_bytes { λ _. ⌜ AreBytes ⌝ }
+{}

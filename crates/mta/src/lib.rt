@@ -1,9 +1,7 @@
-// What programs in C and Rust call: both verdicts and the hashes, on numbers and byte slices. 0 means accepted or done, any other answer is a refusal's
-// number.
+// What a program in C calls (include/mta.h), on numbers and byte slices: both verdicts, carrying and comparing, the root of leaf hashes, the reader of items
+// and the writer of a consistency item, the hashes and the block step. 0 means accepted or done, any other answer is a refusal's number.
 ghost use mathlib.Core.Path.{_≡_};
-ghost use mathlib.Core.List.{_++_};
-ghost use Prim.Native.Nat.{_≤_};
-ghost use lib.ListN.{length, drop};
+ghost use lib.ListN.{length};
 ghost use Rattle.hash.specs.Digest.{sha256, leafHash};
 ghost use Rattle.hash.specs.Answers.{mostInput, mostItem, intoNumber, intoBytes};
 ghost use Rattle.tree.specs.Verdict.{inclusionVerdict, consistencyVerdict};

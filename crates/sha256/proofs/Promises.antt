@@ -1,16 +1,19 @@
 -- What the layers above may use of the block step beside its contract. Assumes nothing.
 use mathlib.Core.Bool.{Bool, true, false, cond}
-use mathlib.Core.Path.{_≡_, refl}
+use mathlib.Core.Path.{_≡_, refl, ap}
 use mathlib.Core.List.{List}
 use Prim.Native.Nat.{ℕ, zero, suc, _+_, _<_, _≤_}
+use native.Mathlib.Omega.{arith}
 use lib.ListN.{length}
 use lib.Dec.{ltb}
 use borrow.Author.Tests.{ltb-true, eq-eqb, ne-eqb, le-leb, lt-leb}
 use Rattle.sha256.specs.declared.State.{State}
-use Rattle.sha256.specs.Told.{done}
+use Rattle.sha256.specs.declared.Stepped.the-variants.{Done, Refused}
+use Rattle.sha256.specs.Told.{done, refused}
 use Rattle.sha256.specs.Words.{wordFrom}
 use Rattle.sha256.specs.Sha256.{wordAfter, schedule, word, rounds, compress}
 use Rattle.sha256.specs.Answers.{stepNumber, stepTold, stepSchedule, fits, valueAfter, scheduleAfter}
+use Rattle.sha256.specs.Claims.{StepLosesNothing}
 
 -- ---- a block and a schedule that fit are taken
 module _ (s : State) (m w : List ℕ) (p : ℕ) (h : p + 64 ≤ length m) (k : length w ≡ 64) where
@@ -24,6 +27,15 @@ module _ (m w : List ℕ) (h : length m ≡ 64) (k : length w ≡ 64) where
   step-done s = let e = eq-eqb (length m) 64 h in let f = eq-eqb (length w) 64 k in (simp (e, f), simp (e, f))
 
 -- ---- of any other nothing is taken
+module _ (s : State) (m w : List ℕ) where
+  pub step-5 : (length m ≡ 64 → ⊥) → (refused 5 ≡ stepTold s m w) × (w ≡ stepSchedule m w)
+  unfolding stepNumber stepTold stepSchedule
+  step-5 h = let e = ne-eqb (length m) 64 h in (simp e, simp e)
+
+  pub step-9 : length m ≡ 64 → (length w ≡ 64 → ⊥) → (refused 9 ≡ stepTold s m w) × (w ≡ stepSchedule m w)
+  unfolding stepNumber stepTold stepSchedule
+  step-9 h k = let e = eq-eqb (length m) 64 h in let f = ne-eqb (length w) 64 k in (simp (e, f), simp (e, f))
+
 module _ (s : State) (m w : List ℕ) (p : ℕ) where
   pub block-short : length m < p + 64 → (s ≡ valueAfter s m p w) × (w ≡ scheduleAfter m p w)
   unfolding fits valueAfter scheduleAfter
@@ -32,6 +44,13 @@ module _ (s : State) (m w : List ℕ) (p : ℕ) where
   pub block-unscheduled : p + 64 ≤ length m → (length w ≡ 64 → ⊥) → (s ≡ valueAfter s m p w) × (w ≡ scheduleAfter m p w)
   unfolding fits valueAfter scheduleAfter
   block-unscheduled h k = let e = le-leb (p + 64) (length m) h in let f = ne-eqb (length w) 64 k in (simp (e, f), simp (e, f))
+
+-- ---- what the cases of the answer tell loses nothing
+pub stepping-faithful : StepLosesNothing
+stepping-faithful (Done s) (Done t) e = let f : s ≡ t = cc in ap Done f
+stepping-faithful (Done s) (Refused y) e = absurd (let z : _≡_ {A = ℕ} 0 1 = cc in omega arith)
+stepping-faithful (Refused x) (Done t) e = absurd (let z : _≡_ {A = ℕ} 0 1 = cc in omega arith)
+stepping-faithful (Refused x) (Refused y) e = let f : x ≡ y = cc in ap Refused f
 
 -- ---- the block step goes by a block's sixteen words alone
 

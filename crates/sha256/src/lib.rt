@@ -7,6 +7,7 @@ ghost use Rattle.sha256.specs.Words.{add32, bigEndian, wordFrom};
 ghost use Rattle.sha256.specs.Sha256.{choose, majority, bigSigma0, bigSigma1, smallSigma0, smallSigma1, constants, nextWord, t1Of, t2Of};
 ghost use Rattle.sha256.specs.Sha256.{round as roundOf, addState, compress as compressOf, schedule, initial as initialOf};
 ghost use Rattle.sha256.specs.Answers.{stepping, stepTold, stepSchedule, valueAfter, scheduleAfter};
+ghost use Rattle.sha256.specs.Claims.{BlockIsTaken, BlockAtIsTaken, BySixteenWords, StepLosesNothing};
 ghost use Rattle.sha256.specs.Inner.{eightWith, eightFrom, Known, Longer, Ran};
 
 // A hash value: eight words.
@@ -354,3 +355,11 @@ pub fn step(s: State, m: &[u8], w: &mut [u32]) -> Stepped
     }
     Stepped::Done(step_at(s, m, 0, w))
 }
+
+// What the layers above may use of the block step beside the contracts. It does nothing.
+pub fn claims()
+    ensures block_is_taken { λ _. ⌜ BlockIsTaken ⌝ }
+    ensures block_at_is_taken { λ _. ⌜ BlockAtIsTaken ⌝ }
+    ensures by_sixteen_words { λ _. ⌜ BySixteenWords ⌝ }
+    ensures step_loses_nothing { λ _. ⌜ StepLosesNothing ⌝ }
+{}

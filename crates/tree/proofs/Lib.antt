@@ -9,4 +9,4 @@ pub mod Completing
 pub mod Parting
 pub mod Accepting
 pub mod Building
-pub mod OfSha256
+pub mod Enums

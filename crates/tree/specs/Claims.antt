@@ -1,4 +1,4 @@
--- What is claimed of the definitions, over any hash H of 32 bytes: proved in proofs/Counting, Building and Accepting.
+-- What is claimed of the definitions, over any hash H: proved in proofs/Counting, Building and Accepting, and promised in the source by `claims`.
 -- Assumes nothing: these are statements.
 use mathlib.Core.Path.{_≡_}
 use mathlib.Core.Logic.{_↔_}
@@ -13,6 +13,13 @@ use Rattle.tree.specs.Yield.{inclusionRoot, oldRoot, newRoot}
 use Rattle.tree.specs.Joined.{nodes, nodeAt}
 use Rattle.tree.specs.Verdict.{inclusionVerdict, consistencyVerdict}
 use Rattle.tree.specs.Build.{wrote, inclusionBuilt, consistencyBuilt}
+
+-- of every hash, and of every hash of 32 bytes
+abbrev pub OfEvery : ((List ℕ → List ℕ) → Type 0) → Type 0
+OfEvery Claim = (H : List ℕ → List ℕ) → Claim H
+
+abbrev pub OfEvery32 : ((List ℕ → List ℕ) → Type 0) → Type 0
+OfEvery32 Claim = (H : List ℕ → List ℕ) → ((s : List ℕ) → length (H s) ≡ 32) → Claim H
 
 -- a path has at most k nodes where there are at most 2 ^ k leaves, a consistency path at most one more
 pub record Bounds : Type 0 where

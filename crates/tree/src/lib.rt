@@ -10,3 +10,20 @@ mod parts; // recursions on the two parts of joined leaf hashes
 mod refusal; // the numbers of the refusals
 pub mod split; // the two parts of a list
 pub mod yields; // the roots that a path yields
+
+ghost use Rattle.sha256.specs.Told.{Faithful};
+ghost use Rattle.tree.specs.Build.{building};
+ghost use Rattle.tree.specs.Equations.{Equations};
+ghost use Rattle.tree.specs.Claims.{OfEvery, OfEvery32, Bounds, Counts, Accepts, Equal, Complete};
+
+// What is proved beside the contracts, over any hash: the RFC's equations, the counts of nodes, and that the verdicts accept exactly what the definitions
+// yield, all that the builders build among it. It does nothing.
+pub fn claims()
+    ensures equations { λ _. ⌜ OfEvery Equations ⌝ }
+    ensures bounds { λ _. ⌜ Bounds ⌝ }
+    ensures counts { λ _. ⌜ OfEvery Counts ⌝ }
+    ensures accepts { λ _. ⌜ OfEvery Accepts ⌝ }
+    ensures equal { λ _. ⌜ OfEvery Equal ⌝ }
+    ensures complete { λ _. ⌜ OfEvery32 Complete ⌝ }
+    ensures building_loses_nothing { λ _. ⌜ Faithful building ⌝ }
+{}

@@ -1,4 +1,5 @@
-// The limits of document 01. Nothing else knows them: all other arithmetic holds for every 64-bit size.
+// The limits of document 01. The verdicts, the builders, the auditor's offers and the path buffer of its dispute go by them; all other arithmetic holds
+// for every 64-bit size.
 
 // The largest size of a tree.
 pub const LARGEST_SIZE: u64 = 4294967296;

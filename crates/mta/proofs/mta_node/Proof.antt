@@ -1,6 +1,6 @@
 use borrow.Author.Needs.{needs}
 use denote.Ref.{now}
-use mathlib.Core.Path.{_≡_, ap, _∙_}
+use mathlib.Core.Path.{_≡_, ap, ap₂, _∙_}
 use native.Mathlib.Omega.{arith}
 use lib.ListN.{length}
 use lib.Seq.{take-length}
@@ -29,7 +29,7 @@ returns-4 c =
     let r = now (a .right) in
     let o = now (a .out) in
     let b = c .before .before .before .before .before .before .node .result .bytes in
-    let e : b ≡ nodeHash l r = c .before .before .before .before .before .before .node .ensures ∙ cc (c .before .before .before .before .before .before .before .before .digest-from .ensures, c .before .before .before .before .before .before .before .digest-from2 .ensures) in
+    let e : b ≡ nodeHash l r = c .before .before .before .before .before .before .node .ensures ∙ ap₂ nodeHash (c .before .before .before .before .before .before .before .before .digest-from .ensures) (c .before .before .before .before .before .before .before .digest-from2 .ensures) in
     let n : length b ≡ 32 = ap length e ∙ sha256-length _ in
     let d = node-done l r o (c .before .before .before .before .before .before .before .before .before .before .before .if1 .left) (c .before .before .before .before .before .before .before .before .before .before .if2 .left) (c .before .before .before .before .before .before .before .before .before .if3 .left) in
     (d .0, c .before .before .copy .ensures .1 ∙ rw (take-length b, n, e) (d .1))

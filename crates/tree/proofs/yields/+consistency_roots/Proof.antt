@@ -1,5 +1,6 @@
 -- The proof of the cycle of calls {consistency_roots}: laws of a level for each return. The measure is the size. Assumes nothing.
 use mathlib.Core.Path.{_≡_, _∙_}
+use mathlib.Core.Bool.{false}
 use native.Mathlib.Omega.{arith}
 use denote.Ref.{now}
 use Rattle.hash.specs.Digest.{sha256}
@@ -35,7 +36,8 @@ module _ (t : ℕ) (c : consistency-roots-lts.Else2 (calls t) (consistency-roots
   one-node : c .before .before .before .args .count ≡ 1
   one-node =
       let a = c .before .before .before .args in
-      c .before .before .before .pre .1 .2 ∙ sub-all (a .m) (a .n) (a .known) (omega arith) ∙ rw (c .if2 .left)
+      let k : a .known ≡ false = c .if2 .left in
+      c .before .before .before .pre .1 .2 ∙ sub-all (a .m) (a .n) (a .known) (omega arith) ∙ rw k
 
 -- what is known where the new size is split: a part is old, and the path has a node
 module _ (t : ℕ) (c : consistency-roots-lts.After-cut (calls t) (consistency-roots-at t) consistency-roots.Post) where

@@ -1,0 +1,9 @@
+use Rattle.sha256.proofs.Promises.{step-done, block-taken, compress-same, stepping-faithful}
+use Rattle.sha256.proofs.claims.Statement.{statement}
+use Rattle.sha256.proofs.claims.Tie as tie
+
+returns : tie.Need-returns
+returns c = (step-done, (block-taken, (compress-same, stepping-faithful)))
+
+pub claims-spec : {M : Type 1} → statement M
+claims-spec = tie.close (tie.spec returns)
