@@ -11,7 +11,7 @@ pub mod page;
 ghost use mathlib.Core.Path.{_≡_};
 ghost use Rattle.auditor.specs.Held.{none};
 ghost use Rattle.auditor.specs.Demand.{Demand3, WhateverGiven, TwoAuditors};
-ghost use Rattle.auditor.specs.Claims.{HeldIsAccepted, NeverBack, HonestLog};
+ghost use Rattle.auditor.specs.Claims.{HeldIsAccepted, RefusedAddNothing, NeverBack, HonestLog};
 use bytes::no_id;
 use bytes::no_root;
 
@@ -51,6 +51,7 @@ pub fn claims()
     ensures whatever_given { λ _. ⌜ WhateverGiven ⌝ }
     ensures two_auditors { λ _. ⌜ TwoAuditors ⌝ }
     ensures held_is_accepted { λ _. ⌜ HeldIsAccepted ⌝ }
+    ensures refused_add_nothing { λ _. ⌜ RefusedAddNothing ⌝ }
     ensures never_back { λ _. ⌜ NeverBack ⌝ }
     ensures honest_log { λ _. ⌜ HonestLog ⌝ }
 {}
