@@ -3,6 +3,7 @@ pub mod Copying
 pub mod Offering
 pub mod Asking
 pub mod Reading
+pub mod Journaling
 pub mod Telling
 pub mod Following
 pub mod Disputing

@@ -1,7 +1,9 @@
+pub mod Told
 pub mod Held
 pub mod Offer
 pub mod Page
 pub mod Heads
+pub mod Journal
 pub mod Dispute
 pub mod Calls
 pub mod Demand

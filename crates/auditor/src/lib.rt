@@ -1,11 +1,13 @@
 // The auditor of one log: a record that is handed in and handed back by value, offers of heads and calls for pages over it, and the dispute about
 // two pages that were accepted at one place. No function empties a record, and the dispute takes none.
 //
-// head: an offer    page: a call for a page    dispute: two pages at one place    heads: heads joined in a buffer    bytes: a record's bytes
+// head: an offer    page: a call for a page    dispute: two pages at one place    heads: heads joined in a buffer    journal: one head more
+// bytes: a record's bytes
 mod bytes;
 pub mod dispute;
 pub mod head;
 mod heads;
+pub mod journal;
 pub mod page;
 
 ghost use mathlib.Core.Path.{_≡_};
