@@ -9,5 +9,6 @@ pub mod Following
 pub mod Disputing
 pub mod Holding
 pub mod Settling
+pub mod Keeping
 pub mod Serving
 pub mod Every

@@ -40,12 +40,12 @@ use Rattle.auditor.proofs.Disputing.{followed}
 use Rattle.auditor.proofs.Holding.{same-answers, Runs, runs, later, shown, Some, some-page, consistent-fits, heads-fit}
 
 -- the record holds this size and root, or nothing
-Agrees : Held → ℕ → List ℕ → Type 0
+unfoldable pub Agrees : Held → ℕ → List ℕ → Type 0
 Agrees empty m r = Unit {0}
 Agrees (head id time size root) m r = (size ≡ m) × (root ≡ r)
 
 -- what the record holds is the last accepted head's
-agrees : (es : List Entry) (held : Held) (m : ℕ) (r : List ℕ) → Agrees held m r → Agrees (lastHead held es) (lastSize m (heads es)) (lastRoot r (heads es))
+pub agrees : (es : List Entry) (held : Held) (m : ℕ) (r : List ℕ) → Agrees held m r → Agrees (lastHead held es) (lastSize m (heads es)) (lastRoot r (heads es))
 unfolding lastHead heads lastSize lastRoot Agrees
 agrees [] held m r a = a
 agrees (answered (offer id time size root path) zero ∷ es) held m r a = agrees es (head id time size root) size root (refl, refl)

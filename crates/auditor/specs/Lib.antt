@@ -7,4 +7,5 @@ pub mod Journal
 pub mod Dispute
 pub mod Calls
 pub mod Demand
+pub mod Keeping
 pub mod Claims

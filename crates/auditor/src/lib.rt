@@ -13,6 +13,7 @@ pub mod page;
 ghost use mathlib.Core.Path.{_≡_};
 ghost use Rattle.auditor.specs.Held.{none};
 ghost use Rattle.auditor.specs.Demand.{Demand3, WhateverGiven, TwoAuditors};
+ghost use Rattle.auditor.specs.Keeping.{JournalJoins, LongEnough, AsKept};
 ghost use Rattle.auditor.specs.Claims.{HeldIsAccepted, RefusedAddNothing, NeverBack, HonestLog};
 use bytes::no_id;
 use bytes::no_root;
@@ -50,6 +51,9 @@ pub fn empty() -> Record
 // What is proved of every list of calls, as the third demand asks. It does nothing.
 pub fn claims()
     ensures demand3 { λ _. ⌜ Demand3 ⌝ }
+    ensures as_kept { λ _. ⌜ AsKept ⌝ }
+    ensures journal_joins { λ _. ⌜ JournalJoins ⌝ }
+    ensures long_enough { λ _. ⌜ LongEnough ⌝ }
     ensures whatever_given { λ _. ⌜ WhateverGiven ⌝ }
     ensures two_auditors { λ _. ⌜ TwoAuditors ⌝ }
     ensures held_is_accepted { λ _. ⌜ HeldIsAccepted ⌝ }
