@@ -10,5 +10,6 @@ pub mod Disputing
 pub mod Holding
 pub mod Settling
 pub mod Keeping
+pub mod Computing
 pub mod Serving
 pub mod Every

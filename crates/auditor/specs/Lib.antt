@@ -8,4 +8,5 @@ pub mod Dispute
 pub mod Calls
 pub mod Demand
 pub mod Keeping
+pub mod Examples
 pub mod Claims

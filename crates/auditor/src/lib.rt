@@ -14,6 +14,7 @@ ghost use mathlib.Core.Path.{_≡_};
 ghost use Rattle.auditor.specs.Held.{none};
 ghost use Rattle.auditor.specs.Demand.{Demand3, WhateverGiven, TwoAuditors};
 ghost use Rattle.auditor.specs.Keeping.{JournalJoins, LongEnough, AsKept};
+ghost use Rattle.auditor.specs.Examples.{Disputed};
 ghost use Rattle.auditor.specs.Claims.{HeldIsAccepted, RefusedAddNothing, NeverBack, HonestLog};
 use bytes::no_id;
 use bytes::no_root;
@@ -59,5 +60,6 @@ pub fn claims()
     ensures held_is_accepted { λ _. ⌜ HeldIsAccepted ⌝ }
     ensures refused_add_nothing { λ _. ⌜ RefusedAddNothing ⌝ }
     ensures never_back { λ _. ⌜ NeverBack ⌝ }
+    ensures disputed { λ _. ⌜ Disputed ⌝ }
     ensures honest_log { λ _. ⌜ HonestLog ⌝ }
 {}
