@@ -11,7 +11,7 @@ pub mod journal;
 pub mod page;
 
 ghost use mathlib.Core.Path.{_≡_};
-ghost use Rattle.auditor.specs.Held.{none};
+ghost use Rattle.auditor.specs.Held.{none, stayed};
 ghost use Rattle.auditor.specs.Demand.{Demand3, WhateverGiven, TwoAuditors};
 ghost use Rattle.auditor.specs.Keeping.{JournalJoins, LongEnough, AsKept};
 ghost use Rattle.auditor.specs.Examples.{Disputed};
@@ -46,6 +46,16 @@ pub fn empty() -> Record
         timestamp: 0,
         size: 0,
         root: no_root(),
+    }
+}
+
+// The answer of a call that leaves the record as it was: a refusal, or a page.
+pub(crate) fn unchanged(n: u32, r: Record) -> Answered
+    ensures { λ o. ⌜ o ≡ stayed n r ⌝ }
+{
+    Answered {
+        number: n,
+        after: r,
     }
 }
 
