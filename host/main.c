@@ -5,7 +5,7 @@
 #include <stdio.h>
 #include <string.h>
 
-enum { HASH = 32, MOST = 8, PAIR = 130, BEFORE = 0xa5 };
+enum { HASH = 32, MOST = 8, PAIR = 130, BEFORE = 0xa5, ODD = 987654321 };
 
 typedef struct {
     uint8_t bytes[HASH];
@@ -27,6 +27,7 @@ static const Path none;
 
 static int passed, failed;
 
+/* What a call answered. */
 static void expect(const char *what, uint32_t got, uint32_t want)
 {
     if (got == want) {
@@ -34,7 +35,19 @@ static void expect(const char *what, uint32_t got, uint32_t want)
         return;
     }
     failed++;
-    printf("FAILED: %s: %u where %u is right\n", what, (unsigned)got, (unsigned)want);
+    printf("FAILED: %s: %u (%s) where %u (%s) is right\n", what, (unsigned)got, mta_refusal(got), (unsigned)want,
+           mta_refusal(want));
+}
+
+/* What it left in memory. */
+static void holds_true(const char *what, bool is_right)
+{
+    if (is_right) {
+        passed++;
+        return;
+    }
+    failed++;
+    printf("FAILED: %s: other memory\n", what);
 }
 
 static Hash leaf(uint8_t item)
@@ -82,49 +95,88 @@ static bool holds(const uint8_t *buffer, size_t length, Path start)
     return true;
 }
 
-/* Carries a proof by a consistency path. Both results are set and the pair buffer stays; of a refusal
- * the new path is none, and the path buffer stays too. */
+/* Carries a proof by a consistency path. The pair buffer stays; of a refusal, whose new path is none, the path
+ * buffer and both results stay too. */
 static void carries(const char *what, Proof p, uint64_t second, Hash root2, Path by, size_t out_length,
                     size_t pair_length, uint32_t want, Path new_path)
 {
-    uint8_t out[HASH * MOST], pair[PAIR];
-    uint64_t written = UINT64_MAX;
-    bool collided = true;
-    memset(out, BEFORE, sizeof out);
-    memset(pair, BEFORE, sizeof pair);
-    expect(what,
-           mta_carry(p.leaf.bytes, HASH, p.place, p.size, second, p.root.bytes, HASH, root2.bytes, HASH, p.path.bytes,
-                     p.path.length, by.bytes, by.length, out, out_length, pair, pair_length, &written, &collided),
-           want);
-    expect(what, written == new_path.length && !collided, true);
-    expect(what, holds(out, sizeof out, new_path) && holds(pair, sizeof pair, none), true);
+    for (int before = 0; before <= 1; before++) {
+        uint8_t out[HASH * MOST], pair[PAIR];
+        uint64_t written = ODD;
+        bool collided = before;
+        memset(out, BEFORE, sizeof out);
+        memset(pair, BEFORE, sizeof pair);
+        expect(what,
+               mta_carry(p.leaf.bytes, HASH, p.place, p.size, second, p.root.bytes, HASH, root2.bytes, HASH,
+                         p.path.bytes, p.path.length, by.bytes, by.length, out, out_length, pair, pair_length,
+                         &written, &collided),
+               want);
+        holds_true(what, written == (want == MTA_OK ? new_path.length : ODD));
+        holds_true(what, collided == (want == MTA_OK ? false : before));
+        holds_true(what, holds(out, sizeof out, new_path) && holds(pair, sizeof pair, none));
+    }
 }
 
-/* Compares a proof with another leaf and path. The result is set and the pair buffer stays. */
+/* Compares a proof with another leaf and path. The pair buffer stays, and of a refusal the result too. */
 static void compares(const char *what, Proof p, Hash leaf2, Path path2, size_t pair_length, uint32_t want)
 {
-    uint8_t pair[PAIR];
-    bool collided = true;
-    memset(pair, BEFORE, sizeof pair);
-    expect(what,
-           mta_compare(p.place, p.size, p.root.bytes, HASH, p.leaf.bytes, HASH, p.path.bytes, p.path.length,
-                       leaf2.bytes, HASH, path2.bytes, path2.length, pair, pair_length, &collided),
-           want);
-    expect(what, !collided && holds(pair, sizeof pair, none), true);
+    for (int before = 0; before <= 1; before++) {
+        uint8_t pair[PAIR];
+        bool collided = before;
+        memset(pair, BEFORE, sizeof pair);
+        expect(what,
+               mta_compare(p.place, p.size, p.root.bytes, HASH, p.leaf.bytes, HASH, p.path.bytes, p.path.length,
+                           leaf2.bytes, HASH, path2.bytes, path2.length, pair, pair_length, &collided),
+               want);
+        holds_true(what, collided == (want == MTA_OK ? false : before));
+        holds_true(what, holds(pair, sizeof pair, none));
+    }
+}
+
+/* Writes a consistency item with an empty path; of a refusal the buffer and the length stay. */
+static void writes(const char *what, const uint8_t *log, size_t log_length, size_t path_length, size_t out_length,
+                   uint32_t want)
+{
+    enum { ITEM = 23 };
+    static const uint8_t zeros[HASH];
+    uint8_t out[2 * HASH];
+    uint64_t written = ODD, place = ODD;
+    memset(out, BEFORE, sizeof out);
+    expect(what, mta_consistency_item(log, log_length, 3, 7, zeros, path_length, out, out_length, &written), want);
+    if (want != MTA_OK) {
+        holds_true(what, written == ODD && holds(out, sizeof out, none));
+        return;
+    }
+    holds_true(what, written == ITEM && out[ITEM] == BEFORE);
+    expect("the item read", mta_item(out, ITEM, &place), MTA_OK);
+    holds_true("its place", place == 0);
+    expect("one byte more", mta_item(out, ITEM + 1, &place), MTA_EXTRA);
+    holds_true("the extra byte's place", place == ITEM);
+}
+
+/* Every number has words, and no two of the table have the same. */
+static void words(void)
+{
+    for (uint32_t n = MTA_OK; n <= MTA_NO_HEAD + 1; n++) {
+        holds_true("words", mta_refusal(n)[0] != 0);
+        for (uint32_t m = MTA_OK; m < n; m++)
+            holds_true("words of two numbers", strcmp(mta_refusal(n), mta_refusal(m)) != 0);
+    }
+    holds_true("words of no number", strcmp(mta_refusal(UINT32_MAX), mta_refusal(MTA_NO_HEAD + 1)) == 0);
 }
 
 /* A slice of length 0 may be NULL. */
 static void empty_slices(Hash h)
 {
     uint8_t digest[HASH], pair[PAIR];
-    uint64_t written = 1;
+    uint64_t written = ODD;
     bool collided = true;
     static const uint8_t of_nothing[HASH] = {
         0xe3, 0xb0, 0xc4, 0x42, 0x98, 0xfc, 0x1c, 0x14, 0x9a, 0xfb, 0xf4, 0xc8, 0x99, 0x6f, 0xb9, 0x24,
         0x27, 0xae, 0x41, 0xe4, 0x64, 0x9b, 0x93, 0x4c, 0xa4, 0x95, 0x99, 0x1b, 0x78, 0x52, 0xb8, 0x55};
 
     expect("the empty string", mta_digest(NULL, 0, digest, HASH), MTA_OK);
-    expect("its digest", memcmp(digest, of_nothing, HASH) != 0, 0);
+    holds_true("its digest", memcmp(digest, of_nothing, HASH) == 0);
     expect("a digest into nothing", mta_digest(NULL, 0, NULL, 0), MTA_ROOM);
     expect("an empty path", mta_inclusion(h.bytes, HASH, 0, 1, h.bytes, HASH, NULL, 0), MTA_OK);
     expect("no leaf hash", mta_inclusion(NULL, 0, 0, 1, h.bytes, HASH, NULL, 0), MTA_LENGTH);
@@ -136,7 +188,7 @@ static void empty_slices(Hash h)
            mta_carry(h.bytes, HASH, 0, 1, 1, h.bytes, HASH, h.bytes, HASH, NULL, 0, NULL, 0, NULL, 0, pair, PAIR,
                      &written, &collided),
            MTA_OK);
-    expect("nothing written", written != 0 || collided, 0);
+    holds_true("nothing written", written == 0 && !collided);
     expect("nothing to carry",
            mta_carry(NULL, 0, 0, 0, 0, NULL, 0, NULL, 0, NULL, 0, NULL, 0, NULL, 0, NULL, 0, &written, &collided),
            MTA_LENGTH);
@@ -199,7 +251,14 @@ int main(void)
     compares("with a longer path", first3, a, carried3, PAIR, MTA_COUNT);
     compares("a pair buffer too short to compare", first3, a, first3.path, PAIR - 1, MTA_ROOM);
 
+    static const uint8_t log[] = {0x2a, 0x03};
+    writes("a consistency item", log, sizeof log, 0, 23, MTA_OK);
+    writes("a log id of one byte", log, 1, 0, 23, MTA_LENGTH);
+    writes("half a node in an item", log, sizeof log, 31, 56, MTA_JOINED);
+    writes("an item too long for its buffer", log, sizeof log, 0, 22, MTA_ROOM);
+
     empty_slices(a);
+    words();
     printf("%d passed, %d failed\n", passed, failed);
     return failed != 0;
 }

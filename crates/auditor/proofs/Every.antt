@@ -13,8 +13,9 @@ use Rattle.auditor.specs.declared.journal.Appended.the-variants.{Used}
 use Rattle.auditor.specs.Held.{none}
 use Rattle.auditor.specs.Heads.{lastSize, lastRoot, joinedHeads}
 use Rattle.auditor.specs.Calls.{Call, offer, ask, Entry, answered, called, answers, final, heads}
+use Rattle.auditor.specs.Dispute.{settling}
 use Rattle.auditor.specs.Demand.{Tells, Settles}
-use Rattle.auditor.specs.Told.{done}
+use Rattle.sha256.specs.Told.{done}
 use Rattle.auditor.specs.Journal.{append, report, journalAfter}
 use Rattle.auditor.specs.Keeping.{kept, noted, onward, journaled}
 use Rattle.auditor.proofs.Settling.{whatever-given, demand3}
@@ -59,7 +60,7 @@ listed r s es (asks κs place page path o p rest) =
 pub tells :
     (κs : Lfts 7) (place size : ℕ) (page₁ path₁ root between page₂ path₂ pair pair′ : RefT (List ℕ)) (d : Settled) →
     dispute-reads.Learnt κs (page₁, (place, (path₁, (size, (root, (between, (page₂, (path₂, (pair, tt))))))))) d (page₁, (place, (path₁, (size, (root, (between, (page₂, (path₂, (pair′, tt))))))))) →
-    Tells (page₁ .now) (page₂ .now) d (pair′ .now)
+    Tells (page₁ .now) (page₂ .now) (settling d) (pair′ .now)
 tells κs place size page₁ path₁ root between page₂ path₂ pair pair′ d p =
     rw (p .0, p .1) (whatever-given (page₁ .now) place (path₁ .now) size (root .now) (between .now) (page₂ .now) (path₂ .now) (pair .now))
 
@@ -71,7 +72,7 @@ pub every :
     (κs : Lfts 7) (size : ℕ) (root joined pair pair′ : RefT (List ℕ)) (d : Settled) →
     size ≡ lastSize 0 (heads before) → root .now ≡ lastRoot [] (heads before) → joined .now ≡ joinedHeads (heads between) → 130 ≤ length (pair .now) →
     dispute-reads.Learnt κs (page₁, (place, (path₁, (size, (root, (joined, (page₂, (path₂, (pair, tt))))))))) d (page₁, (place, (path₁, (size, (root, (joined, (page₂, (path₂, (pair′, tt))))))))) →
-    Settles (page₁ .now) (page₂ .now) d (pair′ .now)
+    Settles (page₁ .now) (page₂ .now) (settling d) (pair′ .now)
 unfolding Lists
 every start end s before between rest place page₁ path₁ page₂ path₂ run κs size root joined pair pair′ d es er ej long p =
     let w = listed start end _ run in
@@ -139,7 +140,7 @@ pub every-kept :
     (κs : Lfts 7) (root joined pair pair′ : RefT (List ℕ)) (d : Settled) →
     root .now ≡ held .root → joined .now ≡ take used bytes → 130 ≤ length (pair .now) →
     dispute-reads.Learnt κs (page₁, (place, (path₁, (held .size, (root, (joined, (page₂, (path₂, (pair, tt))))))))) d (page₁, (place, (path₁, (held .size, (root, (joined, (page₂, (path₂, (pair′, tt))))))))) →
-    Settles (page₁ .now) (page₂ .now) d (pair′ .now)
+    Settles (page₁ .now) (page₂ .now) (settling d) (pair′ .now)
 unfolding Lists called
 every-kept start held held₂ s before between place page₁ path₁ page₂ path₂ κs₁ κs₂ first second lent bytes used run a z js b y κs root joined pair pair′ d er ej long p =
     let w = listed start held before run in

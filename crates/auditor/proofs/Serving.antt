@@ -27,12 +27,12 @@ use Rattle.carry.specs.Forward.{carried, carry}
 use Rattle.carry.specs.Compare.{compare}
 use Rattle.carry.proofs.Comparing.{comparing}
 use Rattle.carry.proofs.Honest.{honest}
-use Rattle.auditor.specs.declared.dispute.Settled.the-variants.{Same}
+use Rattle.sha256.specs.Told.{Told}
 use Rattle.auditor.specs.Held.{Held, empty, head, none}
 use Rattle.auditor.specs.Offer.{outside, first, against, byRecord, offerNumber, kept}
 use Rattle.auditor.specs.Page.{pageNumber}
 use Rattle.auditor.specs.Heads.{Heads, lastSize, lastRoot, joinedHeads, headsOf}
-use Rattle.auditor.specs.Dispute.{Finding, alike, longestPath, answer, onward, settled, unless, follow, dispute}
+use Rattle.auditor.specs.Dispute.{Finding, alike, longestPath, Ruling, report, onward, settled, unless, follow, dispute}
 use Rattle.auditor.specs.Calls.{Call, offer, ask, Entry, answered, answers, number, after, run, heads}
 use Rattle.auditor.specs.Claims.{leaves, Served, HonestLog}
 use Rattle.auditor.proofs.Reading.{read-back}
@@ -303,8 +303,8 @@ module _ (id : List ℕ) (pages : List (List ℕ)) (all : length pages ≤ large
         rw (p .0, p .2, root, e, le-ltb mostItem (length item) (items place), le-ltb mostItem (length item₂) i, own-accepted m le place (p .1))
         (follows es fs m place pair item₂ w₂ (p .1) le l (g .1))
 
-said : (f : Finding) → f ≡ alike → answer f ≡ Same
-unfolding answer
+said : (f : Finding) → f ≡ alike → report f ≡ Told.done Ruling.samePage
+unfolding report
 said f e = rw e
 
 pub honest-log : HonestLog

@@ -25,10 +25,10 @@ use Rattle.carry.specs.Compare.{Comparison, compare}
 use Rattle.carry.proofs.Comparing.{opened, is-equal, comparing}
 use Rattle.carry.proofs.Refusing.{passed}
 use Rattle.carry.proofs.Carrying.{carrying}
-use Rattle.auditor.specs.declared.dispute.Settled.the-variants.{Refused}
+use Rattle.sha256.specs.Told.{Told}
 use Rattle.auditor.specs.Held.{Held, empty, head, none}
 use Rattle.auditor.specs.Heads.{Heads, end, cut, then, lastSize, lastRoot, joinedHeads, headsOf}
-use Rattle.auditor.specs.Dispute.{Finding, refused, alike, nodes, pages, onward, settled, longestPath, follow, dispute, unless, answer, pairAfter}
+use Rattle.auditor.specs.Dispute.{Finding, refused, alike, nodes, pages, onward, settled, longestPath, follow, dispute, unless, report, pairAfter}
 use Rattle.auditor.specs.Calls.{Call, offer, ask, Entry, answered, number, after, run, answers, heads}
 use Rattle.auditor.specs.Offer.{kept}
 use Rattle.auditor.specs.Page.{pageNumber}
@@ -223,8 +223,8 @@ module _ (H : List ℕ → List ℕ) where
 -- ---- in the code's terms
 
 -- the strings are the start of the pair buffer
-tells : (page₁ page₂ : List ℕ) (d : Finding) (pair : List ℕ) → Owed sha256 page₁ page₂ d → Tells page₁ page₂ (answer d) (pairAfter d pair)
-unfolding Owed Tells answer pairAfter over
+tells : (page₁ page₂ : List ℕ) (d : Finding) (pair : List ℕ) → Owed sha256 page₁ page₂ d → Tells page₁ page₂ (report d) (pairAfter d pair)
+unfolding Owed Tells report pairAfter over
 tells page₁ page₂ (refused n) pair w = tt
 tells page₁ page₂ alike pair w = w
 tells page₁ page₂ (nodes s t) pair w =
@@ -235,12 +235,12 @@ tells page₁ page₂ (nodes s t) pair w =
     rw (a, b) (record { different = w .different; one-value = w .one-hash })
 tells page₁ page₂ pages pair w = w
 
-answer-refused : (d : Finding) (n : ℕ) → answer d ≡ Refused n → d ≡ refused n
-unfolding answer
-answer-refused (refused k) n e = let f : k ≡ n = cc in ap refused f
-answer-refused alike n e = absurd (let y : _≡_ {A = ℕ} 0 1 = cc in omega arith)
-answer-refused (nodes s t) n e = absurd (let y : _≡_ {A = ℕ} 0 1 = cc in omega arith)
-answer-refused pages n e = absurd (let y : _≡_ {A = ℕ} 0 1 = cc in omega arith)
+report-refused : (d : Finding) (n : ℕ) → report d ≡ Told.refused n → d ≡ refused n
+unfolding report
+report-refused (refused k) n e = let f : k ≡ n = cc in ap refused f
+report-refused alike n e = absurd (let y : _≡_ {A = ℕ} 0 1 = cc in omega arith)
+report-refused (nodes s t) n e = absurd (let y : _≡_ {A = ℕ} 0 1 = cc in omega arith)
+report-refused pages n e = absurd (let y : _≡_ {A = ℕ} 0 1 = cc in omega arith)
 
 pub whatever-given : WhateverGiven
 whatever-given page₁ place path₁ size root between page₂ path₂ pair =
@@ -248,11 +248,11 @@ whatever-given page₁ place path₁ size root between page₂ path₂ pair =
 
 settles : (page₁ : List ℕ) (place : ℕ) (path₁ : List ℕ) (size : ℕ) (root : List ℕ) (hs : Heads) (page₂ path₂ pair : List ℕ) → Fits hs →
     ((n : ℕ) → dispute sha256 page₁ place path₁ size root hs page₂ path₂ (length pair) ≡ refused n → ⊥) →
-    (let d = dispute sha256 page₁ place path₁ size root (headsOf (joinedHeads hs)) page₂ path₂ (length pair) in Settles page₁ page₂ (answer d) (pairAfter d pair))
+    (let d = dispute sha256 page₁ place path₁ size root (headsOf (joinedHeads hs)) page₂ path₂ (length pair) in Settles page₁ page₂ (report d) (pairAfter d pair))
 unfolding Settles
 settles page₁ place path₁ size root hs page₂ path₂ pair fit none =
     rw (read-back hs fit)
-    (tells page₁ page₂ _ pair (whatever sha256 sha256-length page₁ place path₁ size root hs page₂ path₂ (length pair)), λ n e. none n (answer-refused _ n e))
+    (tells page₁ page₂ _ pair (whatever sha256 sha256-length page₁ place path₁ size root hs page₂ path₂ (length pair)), λ n e. none n (report-refused _ n e))
 
 pub demand3 : Demand3
 demand3 calls before between rest place page₁ path₁ page₂ path₂ pair e long =
@@ -270,7 +270,7 @@ one-way : (calls₁ calls₂ : List Call) (before₁ rest₁ before₂ rest₂ :
     let s = lastRoot [] (heads before₂) in
     130 ≤ length pair → consistencyVerdict sha256 m n r s proof ≡ 0 →
     (let d = dispute sha256 page₁ place path₁ m r (headsOf (joinedHeads (then n s proof end))) page₂ path₂ (length pair) in
-    Settles page₁ page₂ (answer d) (pairAfter d pair)))
+    Settles page₁ page₂ (report d) (pairAfter d pair)))
 unfolding Chain lastSize lastRoot Fits
 one-way calls₁ calls₂ before₁ rest₁ before₂ rest₂ place page₁ path₁ page₂ path₂ proof pair e₁ e₂ long c =
     let m = lastSize 0 (heads before₁) in

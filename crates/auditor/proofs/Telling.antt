@@ -1,4 +1,4 @@
--- What a dispute makes of the answers of a comparison and of a carrying, in the code's terms. Assumes nothing.
+-- What a dispute makes of what a comparison and a carrying tell. Assumes nothing.
 use mathlib.Core.Path.{_≡_, refl, sym, ap, _∙_}
 use mathlib.Core.Bool.{Bool, true, false, cond}
 use mathlib.Core.List.{List, _++_}
@@ -8,61 +8,59 @@ use lib.ListN.{length, take, drop, length-append}
 use lib.Seq.{take-at}
 use Rattle.tree.specs.Joined.{same}
 use Rattle.tree.specs.Build.{over}
-use Rattle.carry.specs.declared.compare.Compared.the-variants as compared
-use Rattle.carry.specs.declared.forward.Carried.the-variants as carried
-use Rattle.carry.specs.Compare.{Comparison, answer as comparedAs, pairAfter as comparedPair}
-use Rattle.carry.specs.Forward.{Forward, answer as carriedAs, pathAfter as carriedPath, pairAfter as carriedPair}
-use Rattle.auditor.specs.declared.dispute.Settled.the-variants.{Same, Nodes, Pages, Refused}
-use Rattle.auditor.specs.Dispute.{Finding, refused, settled, onward, answer, pairAfter}
+use Rattle.sha256.specs.Told.{Told, done}
+use Rattle.carry.specs.Compare.{Comparison, Likeness, report as comparedAs, pairAfter as comparedPair}
+use Rattle.carry.specs.Forward.{Forward, Moved, report as carriedAs, pathAfter as carriedPath, pairAfter as carriedPair}
+use Rattle.auditor.specs.Dispute.{Finding, refused, Ruling, settled, onward, report, pairAfter}
 
 no : _≡_ {A = ℕ} 0 1 → ⊥
 no e = omega arith
 
 -- a refusal says its number, and the pair buffer keeps its bytes
-pub refused-tells : (d : Finding) (n : ℕ) (b : List ℕ) → d ≡ refused n → (Refused n ≡ answer d) × (b ≡ pairAfter d b)
-unfolding answer pairAfter
+pub refused-tells : (d : Finding) (n : ℕ) (b : List ℕ) → d ≡ refused n → (Told.refused n ≡ report d) × (b ≡ pairAfter d b)
+unfolding report pairAfter
 refused-tells d n b e = rw e (refl, refl)
 
 module _ (page₁ page₂ b : List ℕ) where
-  pub compared-refused : (f : Comparison) (n : ℕ) → compared.Refused n ≡ comparedAs f → (Refused n ≡ answer (settled page₁ page₂ f)) × (comparedPair f b ≡ pairAfter (settled page₁ page₂ f) b)
-  unfolding comparedAs comparedPair settled answer pairAfter
-  compared-refused (Comparison.refused k) n e = (let d : n ≡ k = cc in ap Refused d, refl)
+  pub compared-refused : (f : Comparison) (n : ℕ) → Told.refused n ≡ comparedAs f → (Told.refused n ≡ report (settled page₁ page₂ f)) × (comparedPair f b ≡ pairAfter (settled page₁ page₂ f) b)
+  unfolding comparedAs comparedPair settled report pairAfter
+  compared-refused (Comparison.refused k) n e = (let d : n ≡ k = cc in ap Told.refused d, refl)
   compared-refused Comparison.equal n e = absurd (no (cc))
   compared-refused (Comparison.collision s t) n e = absurd (no (cc))
 
-  pub compared-collision : (f : Comparison) → compared.Collision ≡ comparedAs f → (Nodes ≡ answer (settled page₁ page₂ f)) × (comparedPair f b ≡ pairAfter (settled page₁ page₂ f) b)
-  unfolding comparedAs comparedPair settled answer pairAfter
+  pub compared-collision : (f : Comparison) → done Likeness.ofStrings ≡ comparedAs f → (done Ruling.ofNodes ≡ report (settled page₁ page₂ f)) × (comparedPair f b ≡ pairAfter (settled page₁ page₂ f) b)
+  unfolding comparedAs comparedPair settled report pairAfter
   compared-collision (Comparison.refused k) e = absurd (no (cc))
   compared-collision Comparison.equal e = absurd (no (cc))
   compared-collision (Comparison.collision s t) e = (refl, refl)
 
-  pub compared-same : (f : Comparison) → compared.Same ≡ comparedAs f → same page₁ page₂ ≡ true → (Same ≡ answer (settled page₁ page₂ f)) × (comparedPair f b ≡ pairAfter (settled page₁ page₂ f) b)
-  unfolding comparedAs comparedPair settled answer pairAfter
+  pub compared-same : (f : Comparison) → done Likeness.same ≡ comparedAs f → same page₁ page₂ ≡ true → (done Ruling.samePage ≡ report (settled page₁ page₂ f)) × (comparedPair f b ≡ pairAfter (settled page₁ page₂ f) b)
+  unfolding comparedAs comparedPair settled report pairAfter
   compared-same (Comparison.refused k) e s = absurd (no (cc))
   compared-same Comparison.equal e s = rw s (refl, refl)
   compared-same (Comparison.collision s t) e w = absurd (no (cc))
 
-  pub compared-pages : (f : Comparison) → compared.Same ≡ comparedAs f → same page₁ page₂ ≡ false → (Pages ≡ answer (settled page₁ page₂ f)) × (comparedPair f b ≡ pairAfter (settled page₁ page₂ f) b)
-  unfolding comparedAs comparedPair settled answer pairAfter
+  pub compared-pages : (f : Comparison) → done Likeness.same ≡ comparedAs f → same page₁ page₂ ≡ false → (done Ruling.ofPages ≡ report (settled page₁ page₂ f)) × (comparedPair f b ≡ pairAfter (settled page₁ page₂ f) b)
+  unfolding comparedAs comparedPair settled report pairAfter
   compared-pages (Comparison.refused k) e s = absurd (no (cc))
   compared-pages Comparison.equal e s = rw s (refl, refl)
   compared-pages (Comparison.collision s t) e w = absurd (no (cc))
 
-pub carried-refused : (f : Forward) (go : List ℕ → Finding) (n : ℕ) → carried.Refused n ≡ carriedAs f → (onward f go ≡ refused n) × ((b : List ℕ) → carriedPair f b ≡ b)
+pub carried-refused : (f : Forward) (go : List ℕ → Finding) (n : ℕ) → Told.refused n ≡ carriedAs f → (onward f go ≡ refused n) × ((b : List ℕ) → carriedPair f b ≡ b)
 unfolding carriedAs carriedPair onward
 carried-refused (Forward.refused k) go n e = (let d : k ≡ n = cc in ap refused d, λ b. refl)
 carried-refused (Forward.carried w) go n e = absurd (no (cc))
 carried-refused (Forward.collision s t) go n e = absurd (no (cc))
 
-pub carried-collision : (f : Forward) (go : List ℕ → Finding) (b : List ℕ) → carried.Collision ≡ carriedAs f → (Nodes ≡ answer (onward f go)) × (carriedPair f b ≡ pairAfter (onward f go) b)
-unfolding carriedAs carriedPair onward answer pairAfter
+pub carried-collision : (f : Forward) (go : List ℕ → Finding) (b : List ℕ) → done Moved.ofStrings ≡ carriedAs f → (done Ruling.ofNodes ≡ report (onward f go)) × (carriedPair f b ≡ pairAfter (onward f go) b)
+unfolding carriedAs carriedPair onward report pairAfter
 carried-collision (Forward.refused k) go b e = absurd (no (cc))
 carried-collision (Forward.carried w) go b e = absurd (no (cc))
 carried-collision (Forward.collision s t) go b e = (refl, refl)
 
 -- the carried path is the start of the path buffer
 pub carried-path :
-    (f : Forward) (go : List ℕ → Finding) (n : ℕ) (o b : List ℕ) → carried.Path n ≡ carriedAs f → o ≡ carriedPath f b →
+    (f : Forward) (go : List ℕ → Finding) (n : ℕ) (o b : List ℕ) → done (Moved.ofPath n) ≡ carriedAs f → o ≡ carriedPath f b →
     (onward f go ≡ go (take n o)) × (n ≤ length o) × ((d : List ℕ) → carriedPair f d ≡ d)
 unfolding carriedAs carriedPath carriedPair onward over
 carried-path (Forward.refused k) go n o b e g = absurd (no (cc))

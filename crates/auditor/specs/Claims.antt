@@ -9,11 +9,11 @@ use Rattle.tree.specs.Limits.{largestSize}
 use Rattle.tree.specs.Tree.{leaf, root}
 use Rattle.tree.specs.Joined.{nodes, joined}
 use Rattle.tree.specs.Build.{wrote, inclusionBuilt, consistencyBuilt}
+use Rattle.sha256.specs.Told.{Told}
 use Rattle.auditor.specs.declared.Record.{Record}
-use Rattle.auditor.specs.declared.dispute.Settled.the-variants.{Same}
 use Rattle.auditor.specs.Held.{Held, empty, head, view, none}
 use Rattle.auditor.specs.Heads.{lastSize, lastRoot, joinedHeads, headsOf}
-use Rattle.auditor.specs.Dispute.{dispute, answer}
+use Rattle.auditor.specs.Dispute.{Ruling, dispute, report}
 use Rattle.auditor.specs.Calls.{Call, offer, ask, Entry, answered, answers, final, callOf, accepted, heads}
 
 -- the head of the last accepted offer
@@ -64,7 +64,7 @@ pub record HonestFor (id : List ℕ) (pages : List (List ℕ)) (calls : List Cal
   pub same :
       (before between rest : List Entry) (place : ℕ) (page₁ path₁ page₂ path₂ pair : List ℕ) →
       answers none calls ≡ before ++ (answered (ask place page₁ path₁) 0 ∷ (between ++ (answered (ask place page₂ path₂) 0 ∷ rest))) → 130 ≤ length pair →
-      answer (dispute sha256 page₁ place path₁ (lastSize 0 (heads before)) (lastRoot [] (heads before)) (headsOf (joinedHeads (heads between))) page₂ path₂ (length pair)) ≡ Same
+      report (dispute sha256 page₁ place path₁ (lastSize 0 (heads before)) (lastRoot [] (heads before)) (headsOf (joinedHeads (heads between))) page₂ path₂ (length pair)) ≡ Told.done Ruling.samePage
 
 abbrev pub HonestLog : Type 0
 HonestLog =

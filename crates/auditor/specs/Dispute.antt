@@ -13,6 +13,7 @@ use Rattle.tree.specs.Joined.{same}
 use Rattle.tree.specs.Verdict.{inclusionVerdict}
 use Rattle.carry.specs.Forward.{Forward, carry}
 use Rattle.carry.specs.Compare.{Comparison, compare}
+use Rattle.sha256.specs.Told.{Told, done}
 use Rattle.auditor.specs.declared.dispute.Settled.{Settled}
 use Rattle.auditor.specs.declared.dispute.Settled.the-variants.{Same, Nodes, Pages, Refused}
 use Rattle.auditor.specs.Heads.{Heads, end, cut, then}
@@ -28,12 +29,25 @@ pub data Finding : Type 0 where
   nodes : List ℕ → List ℕ → Finding
   pages : Finding
 
--- its answer in the code
-unfoldable pub answer : Finding → Settled
-answer (refused n) = Refused n
-answer alike = Same
-answer (nodes s t) = Nodes
-answer pages = Pages
+-- what a dispute that is not refused tells: 'same', that two strings of nodes were written, or that the pages are the two strings
+pub data Ruling : Type 0 where
+  samePage : Ruling
+  ofNodes : Ruling
+  ofPages : Ruling
+
+-- what it tells
+unfoldable pub report : Finding → Told Ruling
+report (refused n) = Told.refused n
+report alike = done samePage
+report (nodes s t) = done ofNodes
+report pages = done ofPages
+
+-- what each case of the code's answer tells
+abbrev pub settling : Settled → Told Ruling
+settling (Refused n) = Told.refused n
+settling Same = done samePage
+settling Nodes = done ofNodes
+settling Pages = done ofPages
 
 -- the pair buffer after it
 unfoldable pub pairAfter : Finding → List ℕ → List ℕ

@@ -6,7 +6,7 @@ use lib.Dec.{ltb, eqb}
 use lib.ListN.{length}
 use Rattle.tree.specs.Build.{Outcome, refused, wrote, into}
 use Rattle.item.specs.Steps.{put}
-use Rattle.auditor.specs.Told.{Told, done}
+use Rattle.sha256.specs.Told.{Told, done}
 use Rattle.auditor.specs.declared.journal.Appended.{Appended}
 use Rattle.auditor.specs.declared.journal.Appended.the-variants.{Used, Refused}
 use Rattle.auditor.specs.Heads.{end, then, joinedHeads}

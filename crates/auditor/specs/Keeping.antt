@@ -6,12 +6,12 @@ use Prim.Native.Nat.{ℕ, zero, suc, _+_, _*_, _≤_}
 use lib.ListN.{length, take, drop}
 use Rattle.hash.specs.Digest.{sha256}
 use Rattle.tree.specs.Limits.{mostNodes}
-use Rattle.auditor.specs.Told.{Told, done, refused}
+use Rattle.sha256.specs.Told.{Told, done, refused}
 use Rattle.auditor.specs.declared.Record.{Record}
 use Rattle.auditor.specs.Held.{none}
 use Rattle.auditor.specs.Heads.{joinedHeads, headsOf, howMany}
 use Rattle.auditor.specs.Journal.{append, report, journalAfter}
-use Rattle.auditor.specs.Dispute.{dispute, answer, pairAfter}
+use Rattle.auditor.specs.Dispute.{dispute, report as told, pairAfter}
 use Rattle.auditor.specs.Calls.{Call, offer, ask, Entry, answered, called, answers, final, heads}
 use Rattle.auditor.specs.Demand.{Settles}
 
@@ -70,4 +70,4 @@ AsKept =
     let second = called (final (first .after) between) (ask place page₂ path₂) in
     first .number ≡ 0 → journaled (answers (first .after) between) lent 0 ≡ kept bytes used → second .number ≡ 0 → 130 ≤ length pair →
     (let d = dispute sha256 page₁ place path₁ (held .size) (held .root) (headsOf (take used bytes)) page₂ path₂ (length pair) in
-    Settles page₁ page₂ (answer d) (pairAfter d pair)))
+    Settles page₁ page₂ (told d) (pairAfter d pair)))

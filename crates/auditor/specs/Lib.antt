@@ -1,4 +1,3 @@
-pub mod Told
 pub mod Held
 pub mod Offer
 pub mod Page

@@ -16,10 +16,10 @@ ghost use Prim.Native.Nat.{_-_, _*_, _≤_};
 ghost use lib.ListN.{length, take};
 ghost use Rattle.hash.specs.Digest.{sha256};
 ghost use Rattle.tree.specs.Verdict.{inclusionVerdict};
-ghost use Rattle.carry.specs.Forward.{carry as carryTo, answer as carriedAs, pathAfter as carriedPath, pairAfter as carriedPair};
+ghost use Rattle.carry.specs.Forward.{carry as carryTo, carrying, report as carriedAs, pathAfter as carriedPath, pairAfter as carriedPair};
 ghost use Rattle.carry.specs.Compare.{compare as compareTo};
 ghost use Rattle.auditor.specs.Heads.{sizeOf, rootOf, countOf, pathOf, headsOf};
-ghost use Rattle.auditor.specs.Dispute.{longestPath, settled, follow, answer, pairAfter};
+ghost use Rattle.auditor.specs.Dispute.{longestPath, settled, follow, settling, report, pairAfter};
 ghost use Rattle.auditor.specs.Dispute as paper;
 
 // What a dispute answers: the pages are the same; two strings of nodes that differ and have one hash were written; the two pages, each with 0x00 before
@@ -50,7 +50,7 @@ fn over_head(
     pair: &mut [u8],
 ) -> Carried
     requires { ⌜ (42 ≤ count) × (count ≤ length (now heads)) × (count - 42 ≡ 32 * countOf (now heads)) × (length (now out) ≡ longestPath) ⌝ }
-    ensures { λ r. ⌜ r ≡ carriedAs (carryTo sha256 (now (leaf .entry)) place m (sizeOf (now (heads .entry))) (now (root .entry)) (rootOf (now (heads .entry))) (now (path .entry)) (pathOf (now (heads .entry))) longestPath (length (now (pair .entry)))) ⌝ }
+    ensures { λ r. ⌜ carrying r ≡ carriedAs (carryTo sha256 (now (leaf .entry)) place m (sizeOf (now (heads .entry))) (now (root .entry)) (rootOf (now (heads .entry))) (now (path .entry)) (pathOf (now (heads .entry))) longestPath (length (now (pair .entry)))) ⌝ }
     ensures { λ _. ⌜ now (out .exit) ≡ carriedPath (carryTo sha256 (now (leaf .entry)) place m (sizeOf (now (heads .entry))) (now (root .entry)) (rootOf (now (heads .entry))) (now (path .entry)) (pathOf (now (heads .entry))) longestPath (length (now (pair .entry)))) (now (out .entry)) ⌝ }
     ensures { λ _. ⌜ now (pair .exit) ≡ carriedPair (carryTo sha256 (now (leaf .entry)) place m (sizeOf (now (heads .entry))) (now (root .entry)) (rootOf (now (heads .entry))) (now (path .entry)) (pathOf (now (heads .entry))) longestPath (length (now (pair .entry)))) (now (pair .entry)) ⌝ }
 {
@@ -82,7 +82,7 @@ fn settle(
     path2: &[u8],
     pair: &mut [u8],
 ) -> Settled
-    ensures { λ r. ⌜ r ≡ answer (settled (now (page1 .entry)) (now (page2 .entry)) (compareTo sha256 place size (now (root .entry)) (now (leaf1 .entry)) (now (path1 .entry)) (now (leaf2 .entry)) (now (path2 .entry)) (length (now (pair .entry))))) ⌝ }
+    ensures { λ r. ⌜ settling r ≡ report (settled (now (page1 .entry)) (now (page2 .entry)) (compareTo sha256 place size (now (root .entry)) (now (leaf1 .entry)) (now (path1 .entry)) (now (leaf2 .entry)) (now (path2 .entry)) (length (now (pair .entry))))) ⌝ }
     ensures { λ _. ⌜ now (pair .exit) ≡ pairAfter (settled (now (page1 .entry)) (now (page2 .entry)) (compareTo sha256 place size (now (root .entry)) (now (leaf1 .entry)) (now (path1 .entry)) (now (leaf2 .entry)) (now (path2 .entry)) (length (now (pair .entry))))) (now (pair .entry)) ⌝ }
 {
     let compared = compare(place, size, root, leaf1, path1, leaf2, path2, pair);
@@ -113,7 +113,7 @@ fn work(
     pair: &mut [u8],
 ) -> Settled
     requires { ⌜ (length (now path1) ≤ longestPath) × (length (now root) ≡ 32) × (one .bytes ≡ sha256 (0 ∷ now page1)) × (two .bytes ≡ sha256 (0 ∷ now page2)) ⌝ }
-    ensures { λ r. ⌜ r ≡ answer (follow sha256 place (now (page1 .entry)) (now (page2 .entry)) (now (path2 .entry)) (length (now (pair .entry))) (headsOf (now (heads .entry))) size (now (root .entry)) (now (path1 .entry))) ⌝ }
+    ensures { λ r. ⌜ settling r ≡ report (follow sha256 place (now (page1 .entry)) (now (page2 .entry)) (now (path2 .entry)) (length (now (pair .entry))) (headsOf (now (heads .entry))) size (now (root .entry)) (now (path1 .entry))) ⌝ }
     ensures { λ _. ⌜ now (pair .exit) ≡ pairAfter (follow sha256 place (now (page1 .entry)) (now (page2 .entry)) (now (path2 .entry)) (length (now (pair .entry))) (headsOf (now (heads .entry))) size (now (root .entry)) (now (path1 .entry))) (now (pair .entry)) ⌝ }
 {
     let leaf1 = one.bytes;
@@ -182,7 +182,7 @@ pub fn dispute(
     path2: &[u8],
     pair: &mut [u8],
 ) -> Settled
-    ensures { λ r. ⌜ r ≡ answer (paper.dispute sha256 (now (page1 .entry)) place (now (path1 .entry)) size (now (root .entry)) (headsOf (now (heads .entry))) (now (page2 .entry)) (now (path2 .entry)) (length (now (pair .entry)))) ⌝ }
+    ensures { λ r. ⌜ settling r ≡ report (paper.dispute sha256 (now (page1 .entry)) place (now (path1 .entry)) size (now (root .entry)) (headsOf (now (heads .entry))) (now (page2 .entry)) (now (path2 .entry)) (length (now (pair .entry)))) ⌝ }
     ensures { λ _. ⌜ now (pair .exit) ≡ pairAfter (paper.dispute sha256 (now (page1 .entry)) place (now (path1 .entry)) size (now (root .entry)) (headsOf (now (heads .entry))) (now (page2 .entry)) (now (path2 .entry)) (length (now (pair .entry)))) (now (pair .entry)) ⌝ }
 {
     let first = hash::leaf(page1);

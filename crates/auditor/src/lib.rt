@@ -11,6 +11,9 @@ pub mod journal;
 pub mod page;
 
 ghost use mathlib.Core.Path.{_≡_};
+ghost use Rattle.sha256.specs.Told.{Faithful};
+ghost use Rattle.auditor.specs.Dispute.{settling};
+ghost use Rattle.auditor.specs.Journal.{appending};
 ghost use Rattle.auditor.specs.Held.{none, stayed};
 ghost use Rattle.auditor.specs.Demand.{Demand3, WhateverGiven, TwoAuditors};
 ghost use Rattle.auditor.specs.Keeping.{JournalJoins, LongEnough, AsKept};
@@ -72,4 +75,6 @@ pub fn claims()
     ensures never_back { λ _. ⌜ NeverBack ⌝ }
     ensures disputed { λ _. ⌜ Disputed ⌝ }
     ensures honest_log { λ _. ⌜ HonestLog ⌝ }
+    ensures settling_loses_nothing { λ _. ⌜ Faithful settling ⌝ }
+    ensures appending_loses_nothing { λ _. ⌜ Faithful appending ⌝ }
 {}

@@ -18,9 +18,9 @@ use Rattle.tree.proofs.Counting.{bounds}
 use Rattle.tree.proofs.Accepting.{inclusion-accepted, inclusion-accepts, consistency-accepted, consistency-accepts}
 use Rattle.tree.proofs.Joining.{All32, nodes-first, nodes-length, all-nodes, whole-hash, first-length, joined-append, joined-length, nodes-joined}
 use Rattle.carry.proofs.Refusing.{accepted, passed}
-use Rattle.carry.specs.declared.forward.Carried.the-variants.{Path, Collision, Refused}
+use Rattle.sha256.specs.Told.{Told, done}
 use Rattle.carry.specs.Strings.{Difference, alike, apart, Collides}
-use Rattle.carry.specs.Forward.{Forward, refused, carried, collision, answer, pathAfter, pairAfter, unless, settled, conflict, forward, carry}
+use Rattle.carry.specs.Forward.{Forward, refused, carried, collision, Moved, report, pathAfter, pairAfter, unless, settled, conflict, forward, carry}
 use Rattle.carry.specs.Carries.{Carrying}
 use Rattle.carry.specs.Inner.{pathFrom, Fit, Agree, either}
 use Rattle.carry.proofs.Stepping.{conflict-all, forward-all}
@@ -87,17 +87,17 @@ module _ (H : List ℕ → List ℕ) (leaf : List ℕ) (place m n : ℕ) (root�
           unfolding carry unless
           long l = rw (← e, ← g, eq-eqb v 0 z, eq-eqb w 0 y, le-ltb room (32 * inclusionCount place n) r, le-ltb pair 130 l)
 
--- the answer and the buffers, by what is carried
-pub tells-refused : {c : Forward} {k : ℕ} (o b : List ℕ) → c ≡ refused k → (Refused k ≡ answer c) × ((o ≡ pathAfter c o) × (b ≡ pairAfter c b))
-unfolding answer pathAfter pairAfter
+-- what is told and the buffers, by what is carried
+pub tells-refused : {c : Forward} {k : ℕ} (o b : List ℕ) → c ≡ refused k → (Told.refused k ≡ report c) × ((o ≡ pathAfter c o) × (b ≡ pairAfter c b))
+unfolding report pathAfter pairAfter
 tells-refused o b e = rw e (refl, (refl, refl))
 
-pub tells-apart : {c : Forward} {d : Difference} {s t y : List ℕ} (w o b : List ℕ) → c ≡ settled d w → d ≡ apart s t → y ≡ over (s ++ t) b → (Collision ≡ answer c) × ((o ≡ pathAfter c o) × (y ≡ pairAfter c b))
-unfolding answer pathAfter pairAfter settled
+pub tells-apart : {c : Forward} {d : Difference} {s t y : List ℕ} (w o b : List ℕ) → c ≡ settled d w → d ≡ apart s t → y ≡ over (s ++ t) b → (done Moved.ofStrings ≡ report c) × ((o ≡ pathAfter c o) × (y ≡ pairAfter c b))
+unfolding report pathAfter pairAfter settled
 tells-apart w o b e f g = rw (e, f, g) (refl, (refl, refl))
 
-pub tells-path : {c : Forward} {d : Difference} {w y : List ℕ} {r : ℕ} (u o b : List ℕ) → c ≡ settled d w → d ≡ alike → w ≡ u → r ≡ length u → y ≡ over u o → (Path r ≡ answer c) × ((y ≡ pathAfter c o) × (b ≡ pairAfter c b))
-unfolding answer pathAfter pairAfter settled
+pub tells-path : {c : Forward} {d : Difference} {w y : List ℕ} {r : ℕ} (u o b : List ℕ) → c ≡ settled d w → d ≡ alike → w ≡ u → r ≡ length u → y ≡ over u o → (done (Moved.ofPath r) ≡ report c) × ((y ≡ pathAfter c o) × (b ≡ pairAfter c b))
+unfolding report pathAfter pairAfter settled
 tells-path u o b e f h i g = rw (e, f, h, i, g) (refl, (refl, refl))
 
 -- what the code walked, of the bytes as they came
@@ -141,10 +141,10 @@ either-of v w c h = go (eqb v 0) refl (eqb w 0) refl
     go true e false f = refl
     go false e b f = refl
 
-pub refusal-first : {r v : ℕ} (w : ℕ) → r ≡ v → (r ≡ 0 → ⊥) → Refused r ≡ Refused (either v w)
+pub refusal-first : {r v : ℕ} (w : ℕ) → r ≡ v → (r ≡ 0 → ⊥) → _≡_ {A = Told Moved} (Told.refused r) (Told.refused (either v w))
 refusal-first {r = r} w e z = rw (← e, ne-eqb r 0 z)
 
-pub refusal-second : {r v s w : ℕ} → r ≡ v → r ≡ 0 → s ≡ w → Refused s ≡ Refused (either v w)
+pub refusal-second : {r v s w : ℕ} → r ≡ v → r ≡ 0 → s ≡ w → _≡_ {A = Told Moved} (Told.refused s) (Told.refused (either v w))
 refusal-second {r = r} e z f = rw (← e, eq-eqb r 0 z, f)
 
 module _ (H : List ℕ → List ℕ) (leaf : List ℕ) (place m n : ℕ) (root₁ root₂ path proof : List ℕ) where

@@ -15,9 +15,9 @@ use Rattle.tree.specs.Build.{over}
 use Rattle.tree.proofs.Accepting.{inclusion-accepted}
 use Rattle.tree.proofs.Joining.{nodes-first, nodes-length, all-nodes, whole-hash}
 use Rattle.carry.proofs.Refusing.{accepted, passed}
-use Rattle.carry.specs.declared.compare.Compared.the-variants.{Same, Collision, Refused}
+use Rattle.sha256.specs.Told.{Told, done}
 use Rattle.carry.specs.Strings.{Difference, alike, apart, Collides}
-use Rattle.carry.specs.Compare.{Comparison, refused, equal, collision, answer, pairAfter, unless, found, differ, compare}
+use Rattle.carry.specs.Compare.{Comparison, refused, equal, collision, Likeness, report, pairAfter, unless, found, differ, compare}
 use Rattle.carry.specs.Compares.{Comparing}
 use Rattle.carry.proofs.Differing.{Shows, differ-sound, differ-self}
 
@@ -66,17 +66,17 @@ module _ (H : List ℕ → List ℕ) (place n : ℕ) (root leaf₁ path₁ leaf�
         unfolding compare unless
         long l = rw (← e, ← g, eq-eqb v 0 z, eq-eqb w 0 y, le-ltb room 130 l)
 
--- the answer and the buffer, by what is compared
-pub tells-refused : {c : Comparison} {n : ℕ} (b : List ℕ) → c ≡ refused n → (Refused n ≡ answer c) × (b ≡ pairAfter c b)
-unfolding answer pairAfter
+-- what is told and the buffer, by what is compared
+pub tells-refused : {c : Comparison} {n : ℕ} (b : List ℕ) → c ≡ refused n → (Told.refused n ≡ report c) × (b ≡ pairAfter c b)
+unfolding report pairAfter
 tells-refused b e = rw e (refl, refl)
 
-pub tells-same : {c : Comparison} {d : Difference} (b : List ℕ) → c ≡ found d → d ≡ alike → (Same ≡ answer c) × (b ≡ pairAfter c b)
-unfolding answer pairAfter found
+pub tells-same : {c : Comparison} {d : Difference} (b : List ℕ) → c ≡ found d → d ≡ alike → (done Likeness.same ≡ report c) × (b ≡ pairAfter c b)
+unfolding report pairAfter found
 tells-same b e f = rw (e, f) (refl, refl)
 
-pub tells-apart : {c : Comparison} {d : Difference} {s t : List ℕ} {y : List ℕ} (b : List ℕ) → c ≡ found d → d ≡ apart s t → y ≡ over (s ++ t) b → (Collision ≡ answer c) × (y ≡ pairAfter c b)
-unfolding answer pairAfter found
+pub tells-apart : {c : Comparison} {d : Difference} {s t : List ℕ} {y : List ℕ} (b : List ℕ) → c ≡ found d → d ≡ apart s t → y ≡ over (s ++ t) b → (done Likeness.ofStrings ≡ report c) × (y ≡ pairAfter c b)
+unfolding report pairAfter found
 tells-apart b e f g = rw (e, f, g) (refl, refl)
 
 -- what the code met, of the bytes as they came

@@ -1,3 +1,4 @@
+pub mod Enums
 pub mod Refusing
 pub mod Levels
 pub mod Pairing

@@ -9,6 +9,7 @@ use Rattle.tree.specs.Yield.{init, last, inclusionRootOf}
 use Rattle.tree.specs.Joined.{nodes}
 use Rattle.tree.specs.Verdict.{inclusionVerdict}
 use Rattle.tree.specs.Build.{over}
+use Rattle.sha256.specs.Told.{Told, done}
 use Rattle.carry.specs.declared.compare.Compared.{Compared}
 use Rattle.carry.specs.declared.compare.Compared.the-variants.{Same, Collision, Refused}
 use Rattle.carry.specs.Strings.{string, Difference, alike, apart, topmost}
@@ -19,11 +20,22 @@ pub data Comparison : Type 0 where
   equal : Comparison
   collision : List ℕ → List ℕ → Comparison
 
--- its answer in the code
-unfoldable pub answer : Comparison → Compared
-answer (refused n) = Refused n
-answer equal = Same
-answer (collision s t) = Collision
+-- what a comparison that is not refused tells: 'same', or that two strings were written
+pub data Likeness : Type 0 where
+  same : Likeness
+  ofStrings : Likeness
+
+-- what it tells
+unfoldable pub report : Comparison → Told Likeness
+report (refused n) = Told.refused n
+report equal = done same
+report (collision s t) = done ofStrings
+
+-- what each case of the code's answer tells
+abbrev pub comparing : Compared → Told Likeness
+comparing (Refused n) = Told.refused n
+comparing Same = done same
+comparing Collision = done ofStrings
 
 -- the pair buffer after it: the first proof's string first, and the bytes past the two stay
 unfoldable pub pairAfter : Comparison → List ℕ → List ℕ

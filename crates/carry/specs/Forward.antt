@@ -12,6 +12,7 @@ use Rattle.tree.specs.Yield.{init, last, inclusionRootOf, inclusionRoot, consis
 use Rattle.tree.specs.Joined.{nodes, joined}
 use Rattle.tree.specs.Verdict.{inclusionVerdict, consistencyVerdict}
 use Rattle.tree.specs.Build.{over}
+use Rattle.sha256.specs.Told.{Told, done}
 use Rattle.carry.specs.declared.forward.Carried.{Carried}
 use Rattle.carry.specs.declared.forward.Carried.the-variants.{Path, Collision, Refused}
 use Rattle.carry.specs.Strings.{string, Difference, alike, apart, topmost}
@@ -22,11 +23,22 @@ pub data Forward : Type 0 where
   carried : List ℕ → Forward
   collision : List ℕ → List ℕ → Forward
 
--- its answer in the code: the number, or how many bytes of path were written
-unfoldable pub answer : Forward → Carried
-answer (refused n) = Refused n
-answer (carried w) = Path (length w)
-answer (collision s t) = Collision
+-- what a carrying that is not refused tells: how many bytes of path were written, or that two strings were
+pub data Moved : Type 0 where
+  ofPath : ℕ → Moved
+  ofStrings : Moved
+
+-- what it tells
+unfoldable pub report : Forward → Told Moved
+report (refused n) = Told.refused n
+report (carried w) = done (ofPath (length w))
+report (collision s t) = done ofStrings
+
+-- what each case of the code's answer tells
+abbrev pub carrying : Carried → Told Moved
+carrying (Refused n) = Told.refused n
+carrying (Path n) = done (ofPath n)
+carrying Collision = done ofStrings
 
 -- the path buffer and the pair buffer after it: the one that is not the answer's keeps its bytes
 unfoldable pub pathAfter : Forward → List ℕ → List ℕ

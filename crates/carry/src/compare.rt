@@ -14,7 +14,7 @@ ghost use Rattle.hash.specs.Digest.{sha256};
 ghost use Rattle.tree.specs.Count.{inclusionCount};
 ghost use Rattle.tree.specs.Joined.{firstNodes};
 ghost use Rattle.tree.specs.Yield.{inclusionRoot};
-ghost use Rattle.carry.specs.Compare.{answer, pairAfter, differ};
+ghost use Rattle.carry.specs.Compare.{comparing, report, pairAfter, differ};
 ghost use Rattle.carry.specs.Compare as paper;
 ghost use Rattle.carry.specs.Inner.{metAs};
 
@@ -71,7 +71,7 @@ pub fn compare(
     path2: &[u8],
     pair: &mut [u8],
 ) -> Compared
-    ensures { λ r. ⌜ r ≡ answer (paper.compare sha256 place size (now (root .entry)) (now (leaf1 .entry)) (now (path1 .entry)) (now (leaf2 .entry)) (now (path2 .entry)) (length (now (pair .entry)))) ⌝ }
+    ensures { λ r. ⌜ comparing r ≡ report (paper.compare sha256 place size (now (root .entry)) (now (leaf1 .entry)) (now (path1 .entry)) (now (leaf2 .entry)) (now (path2 .entry)) (length (now (pair .entry)))) ⌝ }
     ensures { λ _. ⌜ now (pair .exit) ≡ pairAfter (paper.compare sha256 place size (now (root .entry)) (now (leaf1 .entry)) (now (path1 .entry)) (now (leaf2 .entry)) (now (path2 .entry)) (length (now (pair .entry)))) (now (pair .entry)) ⌝ }
 {
     let first = inclusion_verdict(leaf1, place, size, root, path1);

@@ -11,9 +11,9 @@ ghost use mathlib.Core.Path.{_≡_};
 ghost use lib.ListN.{length};
 ghost use Rattle.hash.specs.Digest.{sha256};
 ghost use Rattle.tree.specs.Verdict.{inclusionVerdict, consistencyVerdict};
-ghost use Rattle.carry.specs.declared.forward.Carried.the-variants.{Refused};
+ghost use Rattle.sha256.specs.Told.{Told};
 ghost use Rattle.carry.specs.Inner.{either};
-ghost use Rattle.carry.specs.Forward.{answer, pathAfter, pairAfter};
+ghost use Rattle.carry.specs.Forward.{carrying, report, pathAfter, pairAfter};
 ghost use Rattle.carry.specs.Forward as paper;
 
 // What a carrying answers: how many bytes of path it wrote, that it wrote a collision, or the number of its refusal.
@@ -34,7 +34,7 @@ fn refusal(
     path: &[u8],
     proof: &[u8],
 ) -> Carried
-    ensures { λ r. ⌜ r ≡ Refused (either (inclusionVerdict sha256 (now (leaf .entry)) place m (now (old .entry)) (now (path .entry))) (consistencyVerdict sha256 m n (now (old .entry)) (now (new .entry)) (now (proof .entry)))) ⌝ }
+    ensures { λ r. ⌜ carrying r ≡ Told.refused (either (inclusionVerdict sha256 (now (leaf .entry)) place m (now (old .entry)) (now (path .entry))) (consistencyVerdict sha256 m n (now (old .entry)) (now (new .entry)) (now (proof .entry)))) ⌝ }
 {
     let inclusion = inclusion_verdict(leaf, place, m, old, path);
     if inclusion != 0 {
@@ -57,7 +57,7 @@ pub fn carry(
     out: &mut [u8],
     pair: &mut [u8],
 ) -> Carried
-    ensures { λ r. ⌜ r ≡ answer (paper.carry sha256 (now (leaf .entry)) place m n (now (old .entry)) (now (new .entry)) (now (path .entry)) (now (proof .entry)) (length (now (out .entry))) (length (now (pair .entry)))) ⌝ }
+    ensures { λ r. ⌜ carrying r ≡ report (paper.carry sha256 (now (leaf .entry)) place m n (now (old .entry)) (now (new .entry)) (now (path .entry)) (now (proof .entry)) (length (now (out .entry))) (length (now (pair .entry)))) ⌝ }
     ensures { λ _. ⌜ now (out .exit) ≡ pathAfter (paper.carry sha256 (now (leaf .entry)) place m n (now (old .entry)) (now (new .entry)) (now (path .entry)) (now (proof .entry)) (length (now (out .entry))) (length (now (pair .entry)))) (now (out .entry)) ⌝ }
     ensures { λ _. ⌜ now (pair .exit) ≡ pairAfter (paper.carry sha256 (now (leaf .entry)) place m n (now (old .entry)) (now (new .entry)) (now (path .entry)) (now (proof .entry)) (length (now (out .entry))) (length (now (pair .entry)))) (now (pair .entry)) ⌝ }
 {

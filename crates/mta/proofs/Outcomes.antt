@@ -1,12 +1,17 @@
 -- What each outcome answers and leaves. Assumes nothing.
-use mathlib.Core.Path.{_≡_}
+use mathlib.Core.Path.{_≡_, ap}
 use mathlib.Core.List.{List, _++_}
 use Prim.Native.Nat.{ℕ, _<_, _≤_}
 use lib.ListN.{length, drop}
+use native.Mathlib.Omega.{arith}
 use borrow.Author.Tests.{eq-eqb, ne-eqb, lt-ltb, le-ltb}
+use Rattle.sha256.specs.declared.State.{State}
+use Rattle.sha256.specs.declared.Stepped.{Stepped}
+use Rattle.sha256.specs.declared.Stepped.the-variants.{Done, Refused}
+use Rattle.sha256.specs.Told.{done}
 use Rattle.sha256.specs.Words.{wordFrom}
 use Rattle.sha256.specs.Sha256.{compress, schedule}
-use Rattle.sha256.specs.Answers.{stepNumber}
+use Rattle.sha256.specs.Answers.{stepNumber, stepping}
 use Rattle.hash.specs.Digest.{nodeHash}
 use Rattle.mta.specs.Slices.{nodeNumber, nodeBytes, stateOf, wordsOf, wordsNumber, wordsAfter, scheduleAfter}
 
@@ -34,6 +39,11 @@ module _ (l r out : List ℕ) where
       let f = eq-eqb (length r) 32 k in
       let g = le-ltb (length out) 32 m in
       (simp (e, f, g), simp (e, f, g))
+
+-- the one case that tells a hash value
+pub stepped : (r : Stepped) (s : State) → stepping r ≡ done s → r ≡ Done s
+stepped (Done t) s e = let f : t ≡ s = cc in ap Done f
+stepped (Refused n) s e = absurd (let z : _≡_ {A = ℕ} 0 1 = cc in omega arith)
 
 module _ (l m w : List ℕ) where
   abbrev Refuses : ℕ → Type 0

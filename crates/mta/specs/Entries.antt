@@ -1,18 +1,33 @@
--- The numbers and values that a caller in C is handed for the answers of the other crates. Assumes nothing.
+-- What a caller in C is handed through pointers for the answers of the other crates: a refusal leaves what was there (document 01, 'Answers').
+-- Assumes nothing.
+use mathlib.Core.Bool.{Bool, true, false}
 use mathlib.Core.List.{List, []}
 use Prim.Native.Nat.{ℕ}
-use Rattle.tree.specs.declared.build.Built.{Built}
-use Rattle.tree.specs.declared.build.Built.the-variants.{Wrote, Refused}
+use Rattle.sha256.specs.Told.{Told, done, refused}
+use Rattle.carry.specs.Forward.{Moved}
+use Rattle.carry.specs.Compare.{Likeness}
 use Rattle.item.specs.declared.writer.Numbers.{Numbers}
 use Rattle.item.specs.Answer.{Answer, good, bad}
 use Rattle.item.specs.Item.{vectors, Outcome, writeItem}
 
--- a builder: 0, or the number of its refusal
-abbrev pub builtNumber : Built → ℕ
-builtNumber (Wrote n) = 0
-builtNumber (Refused x) = x
+-- carrying: how many bytes of path were written, 0 where two strings were, and whether they were
+abbrev pub writtenAfter : Told Moved → ℕ → ℕ
+writtenAfter (done (Moved.ofPath n)) was = n
+writtenAfter (done Moved.ofStrings) was = 0
+writtenAfter (refused x) was = was
 
--- the reader or the writer: 0, or the number of its refusal, and the refusal's place
+abbrev pub collidedAfter : Told Moved → Bool → Bool
+collidedAfter (done (Moved.ofPath n)) was = false
+collidedAfter (done Moved.ofStrings) was = true
+collidedAfter (refused x) was = was
+
+-- comparing: whether two strings were written
+abbrev pub differedAfter : Told Likeness → Bool → Bool
+differedAfter (done Likeness.same) was = false
+differedAfter (done Likeness.ofStrings) was = true
+differedAfter (refused x) was = was
+
+-- the reader or the writer: 0, or the number of its refusal, and the refusal's place, which is set by every call and is 0 where there is none
 abbrev pub numberOf : {A : Type 0} → Answer A → ℕ
 numberOf (good a) = 0
 numberOf (bad x at) = x
@@ -21,10 +36,10 @@ abbrev pub placeOf : {A : Type 0} → Answer A → ℕ
 placeOf (good a) = 0
 placeOf (bad x at) = at
 
--- a writer: how many bytes it wrote
-abbrev pub lengthOf : Answer ℕ → ℕ
-lengthOf (good n) = n
-lengthOf (bad x at) = 0
+-- the writer: how many bytes it wrote
+abbrev pub lengthAfter : Answer ℕ → ℕ → ℕ
+lengthAfter (good n) was = n
+lengthAfter (bad x at) was = was
 
 abbrev pub sizesOf : ℕ → ℕ → Numbers
 sizesOf first second = record { timestamp = 0; size = 0; «size_one» = first; «size_two» = second; place = 0; agreement = 0; page = 0 }

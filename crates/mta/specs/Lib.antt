@@ -1,4 +1,3 @@
 -- What the exported functions answer and leave where a caller in C hands over slices for values.
 pub mod Slices
 pub mod Entries
-pub mod Carries

@@ -7,12 +7,12 @@ ghost use lib.ListN.{length, drop};
 ghost use Rattle.hash.specs.Digest.{sha256, leafHash};
 ghost use Rattle.hash.specs.Answers.{mostInput, mostItem, intoNumber, intoBytes};
 ghost use Rattle.tree.specs.Verdict.{inclusionVerdict, consistencyVerdict};
-ghost use Rattle.tree.specs.Build.{answer, output, rootBuilt};
+ghost use Rattle.sha256.specs.Told.{number};
+ghost use Rattle.tree.specs.Build.{building, report, output, rootBuilt};
 ghost use Rattle.item.specs.Item.{reading, readItem, writing};
-ghost use Rattle.carry.specs.Forward.{carry, pathAfter, pairAfter, answer as carryAnswer};
-ghost use Rattle.carry.specs.Compare.{compare, answer as compareAnswer, pairAfter as comparePair};
-ghost use Rattle.mta.specs.Carries.{carriedNumber, carriedCollision, carriedLength, comparedNumber, comparedCollision};
-ghost use Rattle.mta.specs.Entries.{builtNumber, numberOf, placeOf, lengthOf, sizesOf, consistencyWritten};
+ghost use Rattle.carry.specs.Forward.{carry, pathAfter, pairAfter, report as carryReport};
+ghost use Rattle.carry.specs.Compare.{compare, report as compareReport, pairAfter as comparePair};
+ghost use Rattle.mta.specs.Entries.{writtenAfter, collidedAfter, differedAfter, numberOf, placeOf, lengthAfter, sizesOf, consistencyWritten};
 ghost use Rattle.mta.specs.Slices.{nodeNumber, nodeBytes, wordsOf, wordsNumber, wordsAfter, scheduleAfter};
 use carry::compare::Compared;
 use carry::forward::Carried;
@@ -46,37 +46,8 @@ pub extern "C" fn mta_consistency(
     tree::verdict::consistency_verdict(first, second, old, new, path)
 }
 
-struct Told {
-    number: u32,
-    collision: bool,
-    length: usize,
-}
-
-// What a carrying answers, as numbers.
-fn carried(c: Carried) -> Told
-    ensures { λ r. ⌜ (r .number ≡ carriedNumber c) × (r .collision ≡ carriedCollision c) × (r .length ≡ carriedLength c) ⌝ }
-{
-    match c {
-        Carried::Path(n) => Told {
-            number: 0,
-            collision: false,
-            length: n,
-        },
-        Carried::Collision => Told {
-            number: 0,
-            collision: true,
-            length: 0,
-        },
-        Carried::Refused(n) => Told {
-            number: n,
-            collision: false,
-            length: 0,
-        },
-    }
-}
-
 // Carries an inclusion proof at m leaves to n by a consistency proof: 0, with the new path's length and whether a collision was written instead, or the
-// number of the refusal.
+// number of the refusal, which changes nothing.
 #[no_mangle]
 pub extern "C" fn mta_carry(
     leaf: &[u8],
@@ -92,42 +63,29 @@ pub extern "C" fn mta_carry(
     written: &mut u64,
     collided: &mut bool,
 ) -> u32
-    ensures { λ r. ⌜ r ≡ carriedNumber (carryAnswer (carry sha256 (now (leaf .entry)) place m n (now (old .entry)) (now (new .entry)) (now (path .entry)) (now (proof .entry)) (length (now (out .entry))) (length (now (pair .entry))))) ⌝ }
+    ensures { λ r. ⌜ r ≡ number (carryReport (carry sha256 (now (leaf .entry)) place m n (now (old .entry)) (now (new .entry)) (now (path .entry)) (now (proof .entry)) (length (now (out .entry))) (length (now (pair .entry))))) ⌝ }
     ensures { λ _. ⌜ now (out .exit) ≡ pathAfter (carry sha256 (now (leaf .entry)) place m n (now (old .entry)) (now (new .entry)) (now (path .entry)) (now (proof .entry)) (length (now (out .entry))) (length (now (pair .entry)))) (now (out .entry)) ⌝ }
     ensures { λ _. ⌜ now (pair .exit) ≡ pairAfter (carry sha256 (now (leaf .entry)) place m n (now (old .entry)) (now (new .entry)) (now (path .entry)) (now (proof .entry)) (length (now (out .entry))) (length (now (pair .entry)))) (now (pair .entry)) ⌝ }
-    ensures { λ _. ⌜ now (written .exit) ≡ carriedLength (carryAnswer (carry sha256 (now (leaf .entry)) place m n (now (old .entry)) (now (new .entry)) (now (path .entry)) (now (proof .entry)) (length (now (out .entry))) (length (now (pair .entry))))) ⌝ }
-    ensures { λ _. ⌜ now (collided .exit) ≡ carriedCollision (carryAnswer (carry sha256 (now (leaf .entry)) place m n (now (old .entry)) (now (new .entry)) (now (path .entry)) (now (proof .entry)) (length (now (out .entry))) (length (now (pair .entry))))) ⌝ }
+    ensures { λ _. ⌜ now (written .exit) ≡ writtenAfter (carryReport (carry sha256 (now (leaf .entry)) place m n (now (old .entry)) (now (new .entry)) (now (path .entry)) (now (proof .entry)) (length (now (out .entry))) (length (now (pair .entry))))) (now (written .entry)) ⌝ }
+    ensures { λ _. ⌜ now (collided .exit) ≡ collidedAfter (carryReport (carry sha256 (now (leaf .entry)) place m n (now (old .entry)) (now (new .entry)) (now (path .entry)) (now (proof .entry)) (length (now (out .entry))) (length (now (pair .entry))))) (now (collided .entry)) ⌝ }
 {
-    let t = carried(carry::forward::carry(leaf, place, m, n, old, new, path, proof, out, pair));
-    *written = t.length as u64;
-    *collided = t.collision;
-    t.number
-}
-
-// What a comparison answers, as numbers.
-fn compared(c: Compared) -> Told
-    ensures { λ r. ⌜ (r .number ≡ comparedNumber c) × (r .collision ≡ comparedCollision c) ⌝ }
-{
-    match c {
-        Compared::Same => Told {
-            number: 0,
-            collision: false,
-            length: 0,
-        },
-        Compared::Collision => Told {
-            number: 0,
-            collision: true,
-            length: 0,
-        },
-        Compared::Refused(n) => Told {
-            number: n,
-            collision: false,
-            length: 0,
-        },
+    match carry::forward::carry(leaf, place, m, n, old, new, path, proof, out, pair) {
+        Carried::Path(count) => {
+            *written = count as u64;
+            *collided = false;
+            0
+        }
+        Carried::Collision => {
+            *written = 0;
+            *collided = true;
+            0
+        }
+        Carried::Refused(number) => number,
     }
 }
 
-// Compares two inclusion proofs for one place, size and root: 0, and whether a collision was written, or the number of the refusal.
+// Compares two inclusion proofs for one place, size and root: 0, and whether a collision was written, or the number of the refusal, which
+// changes nothing.
 #[no_mangle]
 pub extern "C" fn mta_compare(
     place: u64,
@@ -140,26 +98,34 @@ pub extern "C" fn mta_compare(
     pair: &mut [u8],
     collided: &mut bool,
 ) -> u32
-    ensures { λ r. ⌜ r ≡ comparedNumber (compareAnswer (compare sha256 place size (now (root .entry)) (now (leaf1 .entry)) (now (path1 .entry)) (now (leaf2 .entry)) (now (path2 .entry)) (length (now (pair .entry))))) ⌝ }
+    ensures { λ r. ⌜ r ≡ number (compareReport (compare sha256 place size (now (root .entry)) (now (leaf1 .entry)) (now (path1 .entry)) (now (leaf2 .entry)) (now (path2 .entry)) (length (now (pair .entry))))) ⌝ }
     ensures { λ _. ⌜ now (pair .exit) ≡ comparePair (compare sha256 place size (now (root .entry)) (now (leaf1 .entry)) (now (path1 .entry)) (now (leaf2 .entry)) (now (path2 .entry)) (length (now (pair .entry)))) (now (pair .entry)) ⌝ }
-    ensures { λ _. ⌜ now (collided .exit) ≡ comparedCollision (compareAnswer (compare sha256 place size (now (root .entry)) (now (leaf1 .entry)) (now (path1 .entry)) (now (leaf2 .entry)) (now (path2 .entry)) (length (now (pair .entry))))) ⌝ }
+    ensures { λ _. ⌜ now (collided .exit) ≡ differedAfter (compareReport (compare sha256 place size (now (root .entry)) (now (leaf1 .entry)) (now (path1 .entry)) (now (leaf2 .entry)) (now (path2 .entry)) (length (now (pair .entry))))) (now (collided .entry)) ⌝ }
 {
-    let t = compared(carry::compare::compare(place, size, root, leaf1, path1, leaf2, path2, pair));
-    *collided = t.collision;
-    t.number
+    match carry::compare::compare(place, size, root, leaf1, path1, leaf2, path2, pair) {
+        Compared::Same => {
+            *collided = false;
+            0
+        }
+        Compared::Collision => {
+            *collided = true;
+            0
+        }
+        Compared::Refused(number) => number,
+    }
 }
 
 // The root of joined leaf hashes into the first 32 bytes of out.
 #[no_mangle]
 pub extern "C" fn mta_root(leaves: &[u8], out: &mut [u8]) -> u32
-    ensures { λ r. ⌜ r ≡ builtNumber (answer (rootBuilt sha256 (now (leaves .entry)) (length (now (out .entry))))) ⌝ }
+    ensures { λ r. ⌜ r ≡ number (report (rootBuilt sha256 (now (leaves .entry)) (length (now (out .entry))))) ⌝ }
     ensures { λ _. ⌜ now (out .exit) ≡ output (rootBuilt sha256 (now (leaves .entry)) (length (now (out .entry)))) (now (out .entry)) ⌝ }
 {
     built(tree::build::root(leaves, out))
 }
 
 fn built(b: Built) -> u32
-    ensures { λ r. ⌜ r ≡ builtNumber b ⌝ }
+    ensures { λ r. ⌜ r ≡ number (building b) ⌝ }
 {
     match b {
         Built::Wrote(_) => 0,
@@ -245,24 +211,6 @@ pub extern "C" fn mta_item(s: &[u8], place: &mut u64) -> u32
     r.number
 }
 
-struct Size {
-    number: u32,
-    length: usize,
-}
-
-// What the writer answers, as a number and a length.
-fn sized(w: Written) -> Size
-    ensures { λ r. ⌜ (r .number ≡ numberOf (writing w)) × (r .length ≡ lengthOf (writing w)) ⌝ }
-{
-    match w {
-        Written::Length(n) => Size {
-            number: 0,
-            length: n,
-        },
-        Written::Refused { number, place: _ } => Size { number, length: 0 },
-    }
-}
-
 // The numbers of a consistency item.
 fn sizes(first: u64, second: u64) -> Numbers
     ensures { λ r. ⌜ r ≡ sizesOf first second ⌝ }
@@ -278,7 +226,8 @@ fn sizes(first: u64, second: u64) -> Numbers
     }
 }
 
-// Writes a consistency item (RFC 9162, section 4.11): 0, with the item's length left in `length`, or the number of the refusal.
+// Writes a consistency item (RFC 9162, section 4.11): 0, with the item's length left in `written`, or the number of the refusal, which
+// changes nothing.
 #[no_mangle]
 pub extern "C" fn mta_consistency_item<'a>(
     log: &'a [u8],
@@ -286,14 +235,14 @@ pub extern "C" fn mta_consistency_item<'a>(
     second: u64,
     path: &'a [u8],
     out: &mut [u8],
-    length: &mut u64,
+    written: &mut u64,
 ) -> u32
     ensures { λ r. ⌜ r ≡ numberOf (consistencyWritten (now (log .entry)) first second (now (path .entry)) (now (out .entry)) .answer) ⌝ }
     ensures { λ _. ⌜ now (out .exit) ≡ consistencyWritten (now (log .entry)) first second (now (path .entry)) (now (out .entry)) .bytes ⌝ }
-    ensures { λ _. ⌜ now (length .exit) ≡ lengthOf (consistencyWritten (now (log .entry)) first second (now (path .entry)) (now (out .entry)) .answer) ⌝ }
+    ensures { λ _. ⌜ now (written .exit) ≡ lengthAfter (consistencyWritten (now (log .entry)) first second (now (path .entry)) (now (out .entry)) .answer) (now (written .entry)) ⌝ }
 {
     let none = &log[..0];
-    let w = sized(item::write(
+    match item::write(
         0x0105,
         sizes(first, second),
         log,
@@ -305,9 +254,13 @@ pub extern "C" fn mta_consistency_item<'a>(
         path,
         none,
         out,
-    ));
-    *length = w.length as u64;
-    w.number
+    ) {
+        Written::Length(length) => {
+            *written = length as u64;
+            0
+        }
+        Written::Refused { number, place: _ } => number,
+    }
 }
 
 // The digest of the input into the first 32 bytes of out.

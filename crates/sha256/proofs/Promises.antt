@@ -7,10 +7,10 @@ use lib.ListN.{length}
 use lib.Dec.{ltb}
 use borrow.Author.Tests.{ltb-true, eq-eqb, ne-eqb, le-leb, lt-leb}
 use Rattle.sha256.specs.declared.State.{State}
-use Rattle.sha256.specs.declared.Stepped.the-variants.{Done}
+use Rattle.sha256.specs.Told.{done}
 use Rattle.sha256.specs.Words.{wordFrom}
 use Rattle.sha256.specs.Sha256.{wordAfter, schedule, word, rounds, compress}
-use Rattle.sha256.specs.Answers.{stepNumber, stepAnswer, stepSchedule, fits, valueAfter, scheduleAfter}
+use Rattle.sha256.specs.Answers.{stepNumber, stepTold, stepSchedule, fits, valueAfter, scheduleAfter}
 
 -- ---- a block and a schedule that fit are taken
 module _ (s : State) (m w : List ℕ) (p : ℕ) (h : p + 64 ≤ length m) (k : length w ≡ 64) where
@@ -19,8 +19,8 @@ module _ (s : State) (m w : List ℕ) (p : ℕ) (h : p + 64 ≤ length m) (k : l
   block-taken = let e = le-leb (p + 64) (length m) h in let f = eq-eqb (length w) 64 k in (simp (e, f), simp (e, f))
 
 module _ (m w : List ℕ) (h : length m ≡ 64) (k : length w ≡ 64) where
-  pub step-done : (s : State) → (Done (compress s (wordFrom m 0)) ≡ stepAnswer s m w) × (schedule (wordFrom m 0) 64 ≡ stepSchedule m w)
-  unfolding stepNumber stepAnswer stepSchedule
+  pub step-done : (s : State) → (done (compress s (wordFrom m 0)) ≡ stepTold s m w) × (schedule (wordFrom m 0) 64 ≡ stepSchedule m w)
+  unfolding stepNumber stepTold stepSchedule
   step-done s = let e = eq-eqb (length m) 64 h in let f = eq-eqb (length w) 64 k in (simp (e, f), simp (e, f))
 
 -- ---- of any other nothing is taken

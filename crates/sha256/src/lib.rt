@@ -6,7 +6,7 @@ ghost use lib.ListN.{length};
 ghost use Rattle.sha256.specs.Words.{add32, bigEndian, wordFrom};
 ghost use Rattle.sha256.specs.Sha256.{choose, majority, bigSigma0, bigSigma1, smallSigma0, smallSigma1, constants, nextWord, t1Of, t2Of};
 ghost use Rattle.sha256.specs.Sha256.{round as roundOf, addState, compress as compressOf, schedule, initial as initialOf};
-ghost use Rattle.sha256.specs.Answers.{stepAnswer, stepSchedule, valueAfter, scheduleAfter};
+ghost use Rattle.sha256.specs.Answers.{stepping, stepTold, stepSchedule, valueAfter, scheduleAfter};
 ghost use Rattle.sha256.specs.Inner.{eightWith, eightFrom, Known, Longer, Ran};
 
 // A hash value: eight words.
@@ -343,7 +343,7 @@ pub fn step_at(s: State, m: &[u8], p: usize, w: &mut [u32]) -> State
 
 // The block step: the hash value after a block, whose schedule is left in w. 5: the block is not 64 bytes. 9: w is not 64 words.
 pub fn step(s: State, m: &[u8], w: &mut [u32]) -> Stepped
-    ensures { λ r. ⌜ r ≡ stepAnswer s (now (m .entry)) (now (w .entry)) ⌝ }
+    ensures { λ r. ⌜ stepping r ≡ stepTold s (now (m .entry)) (now (w .entry)) ⌝ }
     ensures { λ _. ⌜ now (w .exit) ≡ stepSchedule (now (m .entry)) (now (w .entry)) ⌝ }
 {
     if m.len() != 64 {

@@ -5,6 +5,7 @@ use mathlib.Core.List.{List, _++_}
 use Prim.Native.Nat.{ℕ, _/_, _%_}
 use lib.Dec.{leb, ltb, eqb}
 use lib.ListN.{length, drop, replicate}
+use Rattle.sha256.specs.Told.{Told, done}
 use Rattle.tree.specs.declared.build.Built.{Built}
 use Rattle.tree.specs.declared.build.Built.the-variants.{Wrote, Refused}
 use Rattle.tree.specs.Limits.{mostLeaves}
@@ -16,10 +17,15 @@ pub data Outcome : Type 0 where
   refused : ℕ → Outcome
   wrote : List ℕ → Outcome
 
--- its answer in the code: the number, or how many bytes were written
-unfoldable pub answer : Outcome → Built
-answer (refused n) = Refused n
-answer (wrote w) = Wrote (length w)
+-- what it tells: the number, or how many bytes were written
+unfoldable pub report : Outcome → Told ℕ
+report (refused n) = Told.refused n
+report (wrote w) = done (length w)
+
+-- what each case of the code's answer tells
+abbrev pub building : Built → Told ℕ
+building (Refused n) = Told.refused n
+building (Wrote n) = done n
 
 -- a buffer whose first bytes are written over
 unfoldable pub over : List ℕ → List ℕ → List ℕ

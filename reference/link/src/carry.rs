@@ -16,23 +16,24 @@ fn inclusion(proof: &Proof) -> Inclusion<'_> {
     Inclusion { leaf, place, size, root, path }
 }
 
-/// The old size and root come from the inclusion proof. Both results are set by every call.
+/// The old size and root come from the inclusion proof. A refused call leaves both results as they were.
 fn carry(one: &Carry, tally: &mut Tally, random: &mut Random) {
     let Carry { old, step, lent, pair } = one;
     let (out, pair) = (random.bytes(*lent), random.bytes(*pair));
     let (mut out_after, mut pair_after) = (out.clone(), pair.clone());
     let ([leaf, root], [_, new_root]) = (&old.hashes, &step.hashes);
     let answer = carry::carry(digest, &inclusion(old), step.numbers[1], new_root, &step.path, &mut out_after, &mut pair_after);
+    let (length_before, flag_before) = (random.draw(), random.byte() & 1);
     let (expected, length, is_collision) = match answer {
         Ok(Carried::Path(length)) => (0, length as u64, 0),
         Ok(Carried::Collision) => (0, 0, 1),
-        Err(number) => (number, 0, 0),
+        Err(number) => (number, length_before, flag_before),
     };
     assert!(expected == 0 || (&out_after, &pair_after) == (&out, &pair), "a refusal changes no byte");
     let [mut a, mut b, mut c] = [leaf, root, new_root].map(|bytes| Lent::new(bytes, random));
     let [mut d, mut e, mut f, mut g] = [&old.path, &step.path, &out, &pair].map(|bytes| Lent::new(bytes, random));
-    let mut written = Lent::new(&[random.draw()], random);
-    let mut collided = Lent::new(&[random.byte() & 1], random);
+    let mut written = Lent::new(&[length_before], random);
+    let mut collided = Lent::new(&[flag_before], random);
     let found = unsafe {
         mta_carry(
             a.pointer(),
@@ -63,20 +64,21 @@ fn carry(one: &Carry, tally: &mut Tally, random: &mut Random) {
     });
 }
 
-/// The place, size and root come from the first proof. The result is set by every call.
+/// The place, size and root come from the first proof. A refused call leaves the result as it was.
 fn compare([one, two]: [&Proof; 2], pair: usize, tally: &mut Tally, random: &mut Random) {
     let pair = random.bytes(pair);
     let mut after = pair.clone();
     let ([place, size], [leaf, root], [other, _]) = (one.numbers, &one.hashes, &two.hashes);
+    let flag_before = random.byte() & 1;
     let (expected, is_collision) = match carry::compare(digest, &inclusion(one), other, &two.path, &mut after) {
         Ok(Compared::Same) => (0, 0),
         Ok(Compared::Collision) => (0, 1),
-        Err(number) => (number, 0),
+        Err(number) => (number, flag_before),
     };
     assert!(expected == 0 || after == pair, "a refusal changes no byte");
     let [mut a, mut b, mut c] = [root, leaf, &one.path].map(|bytes| Lent::new(bytes, random));
     let [mut d, mut e, mut f] = [other, &two.path, &pair].map(|bytes| Lent::new(bytes, random));
-    let mut collided = Lent::new(&[random.byte() & 1], random);
+    let mut collided = Lent::new(&[flag_before], random);
     let found = unsafe {
         mta_compare(
             place,

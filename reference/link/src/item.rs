@@ -6,6 +6,7 @@ use reference::item::{self, encode, Fields, LONGEST_ITEM, LONGEST_PATH};
 use reference::layers::item::{random_fields, random_item, smallest, whole_and_damaged, KINDS};
 use reference::random::Random;
 
+/// The place is set by every call, to 0 where the item is read.
 fn read(input: &[u8], tally: &mut Tally, random: &mut Random) {
     let (expected, expected_place) = match item::read(input) {
         Ok(_) => (0, 0),
@@ -18,20 +19,21 @@ fn read(input: &[u8], tally: &mut Tally, random: &mut Random) {
     tally.count("mta_item", expected, found, is_memory_right, || format!("at {expected_place}: {}", show(input)));
 }
 
-/// The fields of a consistency item; the others aren't looked at.
+/// The fields of a consistency item; the others aren't looked at. A refused call leaves the length as it was.
 fn write(fields: &Fields, out: &[u8], tally: &mut Tally, random: &mut Random) {
     let Fields { log_id, size, second, path, .. } = fields;
     let mut after = out.to_vec();
+    let length_before = random.draw();
     let (expected, expected_length) = match item::write(0x0105, fields, &mut after) {
         Ok(length) => (0, length as u64),
-        Err(refusal) => (refusal.number, 0),
+        Err(refusal) => (refusal.number, length_before),
     };
     let [mut a, mut b, mut c] = [log_id, path, out].map(|bytes| Lent::new(bytes, random));
-    let mut length = Lent::new(&[random.draw()], random);
+    let mut written = Lent::new(&[length_before], random);
     let found = unsafe {
-        mta_consistency_item(a.pointer(), a.length(), *size, *second, b.pointer(), b.length(), c.pointer(), c.length(), length.pointer())
+        mta_consistency_item(a.pointer(), a.length(), *size, *second, b.pointer(), b.length(), c.pointer(), c.length(), written.pointer())
     };
-    let is_memory_right = a.holds(log_id) && b.holds(path) && c.holds(&after) && length.holds(&[expected_length]);
+    let is_memory_right = a.holds(log_id) && b.holds(path) && c.holds(&after) && written.holds(&[expected_length]);
     tally.count("mta_consistency_item", expected, found, is_memory_right, || {
         format!("{}, {size}, {second}, {}, out of {}", show(log_id), show(path), out.len())
     });

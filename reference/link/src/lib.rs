@@ -70,7 +70,7 @@ extern "C" {
         path_len: usize,
         out: *mut u8,
         out_len: usize,
-        length: *mut u64,
+        written: *mut u64,
     ) -> u32;
     pub fn mta_digest(input: *const u8, input_len: usize, out: *mut u8, out_len: usize) -> u32;
     pub fn mta_leaf(item: *const u8, item_len: usize, out: *mut u8, out_len: usize) -> u32;

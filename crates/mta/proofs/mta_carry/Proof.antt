@@ -1,14 +1,52 @@
 use borrow.Author.Needs.{needs}
-use mathlib.Core.Path.{ap, _∙_}
-use Rattle.mta.specs.Carries.{carriedNumber, carriedCollision, carriedLength}
+use denote.Ref.{now}
+use Prim.Native.Nat.{ℕ}
+use mathlib.Core.Bool.{Bool}
+use mathlib.Core.Path.{sym, ap, _∙_}
+use Rattle.sha256.specs.Told.{Told, number}
+use Rattle.carry.specs.Forward.{Moved, carrying}
+use Rattle.mta.specs.Entries.{writtenAfter, collidedAfter}
 use Rattle.mta.proofs.mta_carry.Statement.{statement}
 use Rattle.mta.proofs.mta_carry.Tie as tie
 
 returns : tie.Need-returns
 returns c =
-    let t = c .carried .ensures in
-    let r = c .before .before .before .before .before .carry .ensures in
-    (t .0 ∙ ap carriedNumber (r .0), (r .1 .0, (r .1 .1, (t .2 ∙ ap carriedLength (r .0), t .1 ∙ ap carriedCollision (r .0)))))
+    let b = c .before .before .before .before .before .before .before in
+    let a = b .before .before .before .before .before .before .before .before .before .before .args in
+    let r = b .carry .ensures in
+    let e = ap carrying (sym (c .before .count .given .1)) ∙ r .0 in
+    (ap number e, (r .1 .0, (r .1 .1, (ap (λ (t : Told Moved). writtenAfter t (now (a .written))) e, ap (λ (t : Told Moved). collidedAfter t (now (a .collided))) e))))
+
+returns-2 : tie.Need-returns-2
+returns-2 c =
+    let b = c .before .before .before .before .before .before in
+    let a = b .before .before .before .before .before .before .before .before .before .before .args in
+    let r = b .carry .ensures in
+    let e = ap carrying (sym (c .enum-told .given .1)) ∙ r .0 in
+    (ap number e, (r .1 .0, (r .1 .1, (ap (λ (t : Told Moved). writtenAfter t (now (a .written))) e, ap (λ (t : Told Moved). collidedAfter t (now (a .collided))) e))))
+
+returns-3 : tie.Need-returns-3
+returns-3 c =
+    let b = c .before .before .before .before .before .before .before in
+    let a = b .before .before .before .before .before .before .before .before .before .before .args in
+    let r = b .carry .ensures in
+    let e = ap carrying (sym (c .before .number .given .1)) ∙ r .0 in
+    (ap number e, (r .1 .0, (r .1 .1, (ap (λ (t : Told Moved). writtenAfter t (now (a .written))) e, ap (λ (t : Told Moved). collidedAfter t (now (a .collided))) e))))
 
 pub mta-carry-spec : {M : Type 1} → statement M
-mta-carry-spec = tie.close (tie.spec (λ c. search needs) (λ c. search needs) (λ c. search needs) (λ c. search needs) returns)
+mta-carry-spec =
+    tie.close
+    (tie.spec
+    (λ c κs. search needs)
+    (λ c. search needs)
+    (λ c. search needs)
+    (λ c. search needs)
+    (λ c. search needs)
+    (λ c. search needs)
+    returns
+    (λ c. search needs)
+    (λ c. search needs)
+    returns-2
+    (λ c. search needs)
+    (λ c. search needs)
+    returns-3)

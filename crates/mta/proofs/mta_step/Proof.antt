@@ -7,7 +7,7 @@ use Rattle.sha256.specs.Words.{wordFrom}
 use Rattle.sha256.specs.Sha256.{compress}
 use Rattle.sha256.proofs.Promises.{step-done}
 use Rattle.mta.specs.Slices.{stateOf, wordsOf}
-use Rattle.mta.proofs.Outcomes.{words-block, words-schedule, words-state, words-done}
+use Rattle.mta.proofs.Outcomes.{stepped, words-block, words-schedule, words-state, words-done}
 use Rattle.mta.proofs.mta_step.Statement.{statement}
 use Rattle.mta.proofs.mta_step.Tie as tie
 
@@ -24,7 +24,7 @@ returns-4 : tie.Need-returns-4
 returns-4 c =
     let a = c .before .before .before .before .before .before .before .before .before .before .before .before .before .before .before .before .before .before .before .before .before .args in
     let d = step-done (now (a .block)) (now (a .w)) (c .before .before .before .before .before .before .before .before .before .before .before .before .before .before .before .before .before .if1 .left) (c .before .before .before .before .before .before .before .before .before .before .before .before .before .before .before .before .if2 .left) (stateOf (now (a .state))) in
-    let e = c .before .before .before .before .before .step .ensures .0 ∙ sym (d .0) in
+    let e = stepped (c .before .before .before .before .before .step .result) (compress (stateOf (now (a .state))) (wordFrom (now (a .block)) 0)) (c .before .before .before .before .before .step .ensures .0 ∙ sym (d .0)) in
     let z : _≡_ {A = ℕ} 0 1 = rw e at (c .before .before .match .keys2) in
     absurd (omega arith)
 
@@ -32,7 +32,7 @@ returns-5 : tie.Need-returns-5
 returns-5 c =
     let a = c .before .before .before .before .before .before .before .before .before .before .before .before .before .before .before .before .before .before .before .before .before .before .before .before .before .args in
     let d = step-done (now (a .block)) (now (a .w)) (c .before .before .before .before .before .before .before .before .before .before .before .before .before .before .before .before .before .before .before .before .before .if1 .left) (c .before .before .before .before .before .before .before .before .before .before .before .before .before .before .before .before .before .before .before .before .if2 .left) (stateOf (now (a .state))) in
-    let e = c .before .before .before .before .before .before .before .before .before .step .ensures .0 ∙ sym (d .0) in
+    let e = stepped (c .before .before .before .before .before .before .before .before .before .step .result) (compress (stateOf (now (a .state))) (wordFrom (now (a .block)) 0)) (c .before .before .before .before .before .before .before .before .before .step .ensures .0 ∙ sym (d .0)) in
     let o = words-done (now (a .state)) (now (a .block)) (now (a .w)) (c .before .before .before .before .before .before .before .before .before .before .before .before .before .before .before .before .before .before .before .before .before .if1 .left) (c .before .before .before .before .before .before .before .before .before .before .before .before .before .before .before .before .before .before .before .before .if2 .left) (c .before .before .before .before .before .before .before .before .before .before .before .before .before .before .before .before .before .before .before .if3 .left) in
     let q : c .before .before .before .before .before .r .given .0 .0 ≡ compress (stateOf (now (a .state))) (wordFrom (now (a .block)) 0) = cc (e, c .before .before .before .before .before .r .given .1) in
     (o .0, (c .before .before .put-words .ensures ∙ ap wordsOf q ∙ o .1 .0, c .before .before .before .before .before .before .before .before .before .step .ensures .1 ∙ sym (d .1) ∙ o .1 .1))

@@ -8,9 +8,9 @@ use lib.Seq.{length-take-le}
 use denote.Ref.{now}
 use borrow.Author.Needs.{needs}
 use Rattle.hash.specs.Digest.{sha256}
-use Rattle.carry.specs.Forward.{carry}
+use Rattle.carry.specs.Forward.{carry, carrying}
 use Rattle.auditor.specs.Heads.{sizeOf, rootOf, pathOf, headsOf}
-use Rattle.auditor.specs.Dispute.{onward, longestPath, follow, answer, pairAfter}
+use Rattle.auditor.specs.Dispute.{onward, longestPath, follow, report, pairAfter}
 use Rattle.auditor.proofs.Copying.{over-start}
 use Rattle.auditor.proofs.Reading.{head-whole}
 use Rattle.auditor.proofs.Telling.{refused-tells, carried-refused, carried-collision, carried-path}
@@ -79,7 +79,7 @@ returns-2 : tie.Need-returns-2 Inv-loop μ-loop
 returns-2 c =
     let L = c .before .before .before .before .before .before .before .before .before .before .before .before .before .before .before .before .before .loop in
     let d = c .before .before .before .before .before .before .over-head .ensures in
-    let q = carried-refused _ _ _ (sym (c .before .carried .given .1) ∙ d .0) in
+    let q = carried-refused _ _ _ (ap carrying (sym (c .before .carried .given .1)) ∙ d .0) in
     let t = refused-tells _ _ (now (c .before .before .before .before .before .before .before .before .before .before .before .before .before .before .before .before .before .before .before .before .before .before .before .before .before .before .before .before .before .before .before .before .args .pair)) (turn (c .before .before .before .before .before .before) ∙ q .0) in
     (t .0, d .1 .1 ∙ q .1 (L .pair) ∙ L .inv .5 ∙ t .1)
 
@@ -88,8 +88,8 @@ returns-3 c =
     let L = c .before .before .before .before .before .before .before .before .before .before .before .before .before .before .before .before .loop in
     let d = c .before .before .before .before .before .over-head .ensures in
     let e = turn (c .before .before .before .before .before) in
-    let q = carried-collision _ _ (L .pair) (sym (c .enum-told .given .1) ∙ d .0) in
-    (q .0 ∙ ap answer (sym e), d .1 .1 ∙ q .1 ∙ ap₂ pairAfter (sym e) (L .inv .5))
+    let q = carried-collision _ _ (L .pair) (ap carrying (sym (c .enum-told .given .1)) ∙ d .0) in
+    (q .0 ∙ ap report (sym e), d .1 .1 ∙ q .1 ∙ ap₂ pairAfter (sym e) (L .inv .5))
 
 size-of-requires : tie.Need-size-of-requires Inv-loop μ-loop
 size-of-requires c κs =
@@ -126,7 +126,7 @@ loop-again c =
     let L = c .before .before .before .before .before .before .before .before .before .before .before .before .before .before .before .before .before .before .before .before .loop in
     let d = c .before .before .before .before .before .before .before .before .before .over-head .ensures in
     let rest = take (length (now (a .heads)) - L .at) (drop (L .at) (now (a .heads))) in
-    let q = carried-path _ (follow sha256 (a .place) (now (a .page1)) (now (a .page2)) (now (a .path2)) (length (now (a .pair))) (headsOf (drop (L .at + c .before .before .before .before .before .before .before .before .before .before .before .before .before .before .before .before .before .head-bytes .result) (now (a .heads)))) (sizeOf rest) (rootOf rest)) _ _ _ (sym (c .before .before .before .before .carried2 .given .1) ∙ d .0) (d .1 .0) in
+    let q = carried-path _ (follow sha256 (a .place) (now (a .page1)) (now (a .page2)) (now (a .path2)) (length (now (a .pair))) (headsOf (drop (L .at + c .before .before .before .before .before .before .before .before .before .before .before .before .before .before .before .before .before .head-bytes .result) (now (a .heads)))) (sizeOf rest) (rootOf rest)) _ _ _ (ap carrying (sym (c .before .before .before .before .carried2 .given .1)) ∙ d .0) (d .1 .0) in
     let t = d .1 .1 ∙ q .2 (L .pair) ∙ L .inv .5 in (
       next c,
       within _ (c .before .before .before .before .before .before .before .before .before .over-head .last .1 .1 .1 .1 .1 .1 .1 .0) (q .1) (search needs),
@@ -148,7 +148,7 @@ returns-4 c =
     let L = c .before .before .before .before .before .before .before .before .before .loop in
     let d = c .before .before .settle .ensures in
     let e = sym (L .inv .6) ∙ left-end sha256 (a .place) (now (a .page1)) (now (a .page2)) (now (a .path2)) (now (a .heads)) (length (now (a .pair))) (L .at) (L .m) (L .held) (take (L .len) (L .path)) (a .one .bytes) (a .two .bytes) (length (L .pair)) (c .before .before .before .before .before .before .before .before .loop-test .left) (c .before .before .before .before .before .before .before .before .before .before .before .before .before .before .before .before .before .before .before .before .before .before .before .before .pre .2) (c .before .before .before .before .before .before .before .before .before .before .before .before .before .before .before .before .before .before .before .before .before .before .before .before .pre .3) (L .inv .4) in
-    (d .0 ∙ ap answer (sym e), d .1 ∙ ap₂ pairAfter (sym e) (L .inv .5))
+    (d .0 ∙ ap report (sym e), d .1 ∙ ap₂ pairAfter (sym e) (L .inv .5))
 
 pub work-spec : {M : Type 1} → statement M
 work-spec =
