@@ -1,6 +1,6 @@
 -- What an auditor's record holds over every list of calls: the code's answers are the paper's, and the record is the head that was accepted last, which
 -- never goes back. Assumes nothing.
-use mathlib.Core.Path.{_≡_, refl, sym, ap, _∙_}
+use mathlib.Core.Path.{_≡_, refl, sym, ap, ap₂, _∙_}
 use mathlib.Core.List.{List, [], _∷_, _++_, map}
 use Prim.Native.Nat.{ℕ, zero, suc, _^_, _≤_, _<_}
 use native.Mathlib.Omega.{arith}
@@ -80,7 +80,7 @@ Adds r next calls es = (answers r (map callOf es) ≡ es) × (final r (map callO
 one-call : (r : Record) (c : Call) (calls : List Call) (n : ℕ) → called r c .number ≡ n → Adds (called r c .after) (called r c .after) calls (accepted (answers (called r c .after) calls)) →
     Adds r (called r c .after) calls (accepted (answered c n ∷ answers (called r c .after) calls))
 unfolding Adds answers final accepted callOf
-one-call r c calls zero e i = (rw (e, i .0), i .1)
+one-call r c calls zero e i = (ap₂ (λ (n : ℕ) (es : List Entry). answered c n ∷ es) e (i .0), i .1)
 one-call r c calls (suc n) e i = let s = stays r c n e in rw s (rw s at i)
 
 pub refused-add-nothing : RefusedAddNothing
