@@ -242,6 +242,17 @@ unfolding settled
 settles alike w c e = inl (w, e)
 settles (apart s t) w c e = inr (s, (t, e))
 
+-- strings that are handed over were met by two accepted proofs
+pub handed : (H : List ℕ → List ℕ) (leaf : List ℕ) (place m n : ℕ) (root₁ root₂ path proof : List ℕ) (room pair : ℕ) (s t : List ℕ) → carry H leaf place m n root₁ root₂ path proof room pair ≡ collision s t →
+    (inclusionVerdict H leaf place m root₁ path ≡ 0) × ((consistencyVerdict H m n root₁ root₂ proof ≡ 0) × (conflict H m n place leaf (nodes path) root₁ (nodes proof) ≡ apart s t))
+unfolding carry
+handed H leaf place m n root₁ root₂ path proof room pair s t e =
+    let a = opened (inclusionVerdict H leaf place m root₁ path) _ _ e (is-collision s t) in
+    let b = opened (consistencyVerdict H m n root₁ root₂ proof) _ _ (a .1) (is-collision s t) in
+    let c = passed refused (collision s t) (is-collision s t) (ltb room (32 * inclusionCount place n)) 9 _ (b .1) in
+    let d = passed refused (collision s t) (is-collision s t) (ltb pair 130) 9 _ (c .1) in
+    (a .0, (b .0, settled-apart (conflict H m n place leaf (nodes path) root₁ (nodes proof)) (joined (forward H m n place (nodes path) root₁ (nodes proof))) s t (d .1)))
+
 module _ (H : List ℕ → List ℕ) (H32 : (s : List ℕ) → length (H s) ≡ 32) where
   module _ (leaf : List ℕ) (place m n : ℕ) (root₁ root₂ path proof : List ℕ) (e : inclusionVerdict H leaf place m root₁ path ≡ 0) (f : consistencyVerdict H m n root₁ root₂ proof ≡ 0) where
     pub new-path : All32 (forward H m n place (nodes path) root₁ (nodes proof)) × (length (forward H m n place (nodes path) root₁ (nodes proof)) ≡ inclusionCount place n)
@@ -295,12 +306,8 @@ module _ (H : List ℕ → List ℕ) (H32 : (s : List ℕ) → length (H s) ≡ 
           let f = settled-alike (conflict H m n place leaf (nodes path) root₁ (nodes proof)) (joined (forward H m n place (nodes path) root₁ (nodes proof))) w (d .1) in
           ap (inclusionVerdict H leaf place n root₂) (sym (f .1)) ∙ again leaf place m n root₁ root₂ path proof (a .0) (b .0) (f .0);
       collides = λ s t e.
-          let a = opened (inclusionVerdict H leaf place m root₁ path) _ _ e (is-collision s t) in
-          let b = opened (consistencyVerdict H m n root₁ root₂ proof) _ _ (a .1) (is-collision s t) in
-          let c = passed refused (collision s t) (is-collision s t) (ltb room (32 * inclusionCount place n)) 9 _ (b .1) in
-          let d = passed refused (collision s t) (is-collision s t) (ltb pair 130) 9 _ (c .1) in
-          let f = settled-apart (conflict H m n place leaf (nodes path) root₁ (nodes proof)) (joined (forward H m n place (nodes path) root₁ (nodes proof))) s t (d .1) in
-          apart-right _ _ _ s t f (shown leaf place m n root₁ root₂ path proof (a .0) (b .0));
+          let a = handed H leaf place m n root₁ root₂ path proof room pair s t e in
+          apart-right _ _ _ s t (a .1 .1) (shown leaf place m n root₁ root₂ path proof (a .0) (a .1 .0));
       reports = λ s t e f r l.
           let D = conflict H m n place leaf (nodes path) root₁ (nodes proof) in
           let F = joined (forward H m n place (nodes path) root₁ (nodes proof)) in

@@ -1,13 +1,12 @@
 -- Comparing, on bytes: its claims, and what each of its tests answers. Assumes nothing but the hash's length, where it is asked.
 use mathlib.Core.Path.{_≡_, refl, sym, ap, ap₂, _∙_}
 use mathlib.Core.Logic.{_⊎_, inl, inr}
-use mathlib.Core.Bool.{Bool, true, false, cond}
 use mathlib.Core.List.{List, [], _∷_, _++_}
 use Prim.Native.Nat.{ℕ, zero, suc, _*_, _/_, _≤_, _<_}
 use native.Mathlib.Omega.{arith}
-use lib.Dec.{ltb, eqb}
+use lib.Dec.{ltb}
 use lib.ListN.{length, take, drop, length-drop, take-append-drop}
-use borrow.Author.Tests.{lt-ltb, le-ltb, eq-eqb, ne-eqb, eqb-true}
+use borrow.Author.Tests.{lt-ltb, le-ltb, eq-eqb, ne-eqb}
 use Rattle.tree.specs.Count.{inclusionCount}
 use Rattle.tree.specs.Joined.{firstNodes, nodes, joined, hashAt}
 use Rattle.tree.specs.Verdict.{inclusionVerdict}
@@ -113,6 +112,16 @@ unfolding found
 either alike c e = inl e
 either (apart s t) c e = inr (s, (t, e))
 
+-- strings that are handed over are those of two accepted proofs
+pub handed : (H : List ℕ → List ℕ) (place n : ℕ) (root leaf₁ path₁ leaf₂ path₂ : List ℕ) (room : ℕ) (s t : List ℕ) → compare H place n root leaf₁ path₁ leaf₂ path₂ room ≡ collision s t →
+    (inclusionVerdict H leaf₁ place n root path₁ ≡ 0) × ((inclusionVerdict H leaf₂ place n root path₂ ≡ 0) × (differ H place n leaf₁ (nodes path₁) leaf₂ (nodes path₂) ≡ apart s t))
+unfolding compare
+handed H place n root leaf₁ path₁ leaf₂ path₂ room s t e =
+    let a = opened (inclusionVerdict H leaf₁ place n root path₁) _ _ e (is-collision s t) in
+    let b = opened (inclusionVerdict H leaf₂ place n root path₂) _ _ (a .1) (is-collision s t) in
+    let c = passed refused (collision s t) (is-collision s t) (ltb room 130) 9 _ (b .1) in
+    (a .0, (b .0, found-apart (differ H place n leaf₁ (nodes path₁) leaf₂ (nodes path₂)) s t (c .1)))
+
 module _ (H : List ℕ → List ℕ) (H32 : (s : List ℕ) → length (H s) ≡ 32) where
   module _ (place n : ℕ) (root leaf₁ path₁ leaf₂ path₂ : List ℕ) where
     shown : inclusionVerdict H leaf₁ place n root path₁ ≡ 0 → inclusionVerdict H leaf₂ place n root path₂ ≡ 0 → Shows H leaf₁ (nodes path₁) leaf₂ (nodes path₂) (differ H place n leaf₁ (nodes path₁) leaf₂ (nodes path₂))
@@ -137,11 +146,8 @@ module _ (H : List ℕ → List ℕ) (H32 : (s : List ℕ) → length (H s) ≡ 
   comparing = record {
     compares = λ place n root leaf₁ path₁ leaf₂ path₂ room. record {
       collides = λ s t e.
-          let a = opened (inclusionVerdict H leaf₁ place n root path₁) _ _ e (is-collision s t) in
-          let b = opened (inclusionVerdict H leaf₂ place n root path₂) _ _ (a .1) (is-collision s t) in
-          let c = passed refused (collision s t) (is-collision s t) (ltb room 130) 9 _ (b .1) in
-          let d = found-apart (differ H place n leaf₁ (nodes path₁) leaf₂ (nodes path₂)) s t (c .1) in
-          apart-shows leaf₁ (nodes path₁) leaf₂ (nodes path₂) _ s t d (shown place n root leaf₁ path₁ leaf₂ path₂ (a .0) (b .0));
+          let a = handed H place n root leaf₁ path₁ leaf₂ path₂ room s t e in
+          apart-shows leaf₁ (nodes path₁) leaf₂ (nodes path₂) _ s t (a .1 .1) (shown place n root leaf₁ path₁ leaf₂ path₂ (a .0) (a .1 .0));
       same = λ e f l. (
         λ w.
             let d = found-alike (differ H place n leaf₁ (nodes path₁) leaf₂ (nodes path₂)) (sym (long H place n root leaf₁ path₁ leaf₂ path₂ room (sym e) refl (sym f) refl l) ∙ w) in

@@ -14,23 +14,27 @@ use Rattle.tree.specs.Split.{split}
 use Rattle.tree.specs.Tree.{root, path, subproof, consistency}
 use Rattle.tree.specs.Yield.{init, last, inclusionRoot, oldRoot, newRoot}
 use Rattle.tree.specs.Equations.{left, right}
-use Rattle.tree.specs.Count.{inclusionCount}
+use Rattle.tree.specs.Limits.{largestSize}
+use Rattle.tree.specs.Count.{inclusionCount, consistencyCount}
 use Rattle.tree.specs.Joined.{firstNodes, nodes, nodeAt, joined}
 use Rattle.tree.specs.Verdict.{inclusionVerdict, consistencyVerdict}
 use Rattle.tree.specs.Build.{Outcome, refused, wrote, into, unfit, inclusionBuilt, consistencyBuilt}
 use Rattle.tree.proofs.Splitting.{lt-or-ge, split-ends, split-same}
 use Rattle.tree.proofs.Rfc.{init-snoc, last-snoc, length-left, length-right, by-parts, path-low, path-high, sub-low, sub-high}
-use Rattle.tree.proofs.Completing.{inclusion-complete, subproof-complete, path-32, subproof-32}
-use Rattle.tree.proofs.Joining.{same-of, at-first, take-from, nodes-first, nodes-length, all-nodes, nodes-joined}
-use Rattle.tree.proofs.Building.{path-bytes, complete}
+use Rattle.tree.proofs.Counting.{path-length, subproof-length}
+use Rattle.tree.proofs.Completing.{inclusion-complete, subproof-complete, consistency-complete, root-32, path-32, subproof-32}
+use Rattle.tree.proofs.Accepting.{inclusion-accepts, consistency-accepted, consistency-accepts}
+use Rattle.tree.proofs.Joining.{All32, all-take, same-of, at-first, take-from, nodes-first, nodes-length, all-nodes, joined-length, nodes-joined}
+use Rattle.tree.proofs.Building.{complete}
 use Rattle.carry.specs.Strings.{string, Difference, alike, topmost}
-use Rattle.carry.specs.Forward.{carried, settled, conflict, forward}
+use Rattle.carry.specs.Forward.{carried, settled, conflict, forward, carry}
 use Rattle.carry.specs.Carries.{Honest}
 use Rattle.carry.proofs.Pairing.{top-same}
+use Rattle.carry.proofs.Sizing.{at-32}
 use Rattle.carry.proofs.Carrying.{long}
 use Rattle.carry.proofs.Stepping.{conflict-all, conflict-low, conflict-here, conflict-beyond, forward-all, forward-low, forward-here, forward-beyond}
 
-drop-take : {A : Type 0} (n m : ℕ) (l : List A) → drop n (take m l) ≡ take (m - n) (drop n l)
+pub drop-take : {A : Type 0} (n m : ℕ) (l : List A) → drop n (take m l) ≡ take (m - n) (drop n l)
 drop-take zero m l = let e : m ≡ m - 0 = omega arith in ap (λ (k : ℕ). take k l) e
 drop-take (suc n) zero l = let e : 0 ≡ 0 - suc n = omega arith in ap (λ (k : ℕ). take k (drop (suc n) l)) e
 drop-take (suc n) (suc m) [] = sym (take-nil (suc m - suc n))
@@ -184,6 +188,66 @@ module _ (H : List ℕ → List ℕ) where
   unfolding Holds Held consistency
   honest-list l m x f xm le = held l (omega arith) m x true f xm le
 
+settled-carried : (w : List ℕ) → settled alike w ≡ carried w
+unfolding settled
+settled-carried w = refl
+
+-- the list's own proofs are accepted, and carry to its own path
+module _ (H : List ℕ → List ℕ) (H32 : (s : List ℕ) → length (H s) ≡ 32) (l : List (List ℕ)) (all : All32 l) (m x : ℕ) (xm : x < m) (le : m ≤ length l) (most : length l ≤ largestSize) where
+  taken : length (take m l) ≡ m
+  taken = simp length-take (omega arith)
+
+  old-path-32 : All32 (path H x (take m l))
+  old-path-32 = path-32 H H32 (take m l) (let e = taken in omega arith) x (all-take m l all)
+
+  proof-32 : All32 (consistency H m l)
+  unfolding consistency
+  proof-32 = subproof-32 H H32 l (omega arith) m true (omega arith) le all
+
+  pub own-inclusion : inclusionVerdict H (getD l x []) x m (root H (take m l)) (joined (path H x (take m l))) ≡ 0
+  own-inclusion =
+      let p = path H x (take m l) in
+      inclusion-accepts H (getD l x []) x m (root H (take m l)) (joined p) record {
+        leaf-32 = at-32 l x all (omega arith);
+        root-32 = root-32 H H32 (take m l) (all-take m l all);
+        below = xm;
+        in-range = omega arith;
+        counted = joined-length p old-path-32 ∙ ap (λ (i : ℕ). 32 * i) (path-length H x (take m l) ∙ ap (inclusionCount x) taken);
+        yields = yields-at H x (sym taken) (sym (getD-take m l x [] xm)) (nodes-joined p old-path-32) ∙ inclusion-complete H x (take m l) (let e = taken in omega arith);
+      }
+
+  pub own-consistency : consistencyVerdict H m (length l) (root H (take m l)) (root H l) (joined (consistency H m l)) ≡ 0
+  unfolding consistency consistencyCount
+  own-consistency =
+      let q = consistency H m l in
+      let g = consistency-complete H m l (omega arith) le in
+      let o = root H (take m l) in
+      let e = nodes-joined q proof-32 in
+      consistency-accepts H m (length l) o (root H l) (joined q) record {
+        first-32 = root-32 H H32 (take m l) (all-take m l all);
+        second-32 = root-32 H H32 l all;
+        some = omega arith;
+        order = le;
+        in-range = most;
+        counted = joined-length q proof-32 ∙ ap (λ (i : ℕ). 32 * i) (subproof-length H m l true);
+        yields-first = ap (oldRoot H m (length l) true o) e ∙ g .0;
+        yields-second = ap (newRoot H m (length l) true o) e ∙ g .1;
+      }
+
+  pub own-carried : (room pair : ℕ) → length (joined (path H x l)) ≤ room → 130 ≤ pair →
+      carry H (getD l x []) x m (length l) (root H (take m l)) (root H l) (joined (path H x (take m l))) (joined (consistency H m l)) room pair ≡ carried (joined (path H x l))
+  own-carried room pair fits long-pair =
+      let n = length l in
+      let o = root H (take m l) in
+      let p = path H x (take m l) in
+      let q = consistency H m l in
+      let own = honest-list H l m x o xm le in
+      let bytes = joined-length (path H x l) (path-32 H H32 l (omega arith) x all) in
+      let count = path-length H x l in
+      long H (getD l x []) x m n o (root H l) (joined p) (joined q) room pair (sym own-inclusion) refl (sym own-consistency) refl (omega arith) long-pair
+      ∙ ap₂ settled (conflict-at H m x o refl refl (nodes-joined p old-path-32) (nodes-joined q proof-32) ∙ own .0)
+      (ap joined (forward-at H m x o refl (nodes-joined p old-path-32) (nodes-joined q proof-32) ∙ own .1)) ∙ settled-carried (joined (path H x l))
+
 -- ---- on bytes
 
 -- the nodes of the first m hashes of a buffer
@@ -207,10 +271,6 @@ module _ (m : ℕ) (s : List ℕ) (le : m ≤ length s / 32) where
   taken-at x l =
       let e : length (take (32 * m) s) / 32 ≡ m = taken-count in
       sym (at-first m x (take (32 * m) s) l) ∙ ap (λ (p : List (List ℕ)). getD p x []) (first-take m s) ∙ at-first m x s l
-
-settled-carried : (w : List ℕ) → settled alike w ≡ carried w
-unfolding settled
-settled-carried w = refl
 
 -- what a builder that wrote built
 built : (b : Bool) (n : ℕ) (o : Outcome) (w : List ℕ) → cond b (refused n) o ≡ wrote w → (b ≡ false) × (o ≡ wrote w)
@@ -242,32 +302,22 @@ module _ (H : List ℕ → List ℕ) where
       (let f = eqb-false first 0 (r .0) in omega arith, ltb-false (length s / 32) first (r .1), built-into room (joined (consistency H first (nodes s))) w (b .1))
 
   module _ (H32 : (s : List ℕ) → length (H s) ≡ 32) where
+    carry-at : (place m : ℕ) (r : List ℕ) (room pair : ℕ) {h h′ o o′ p p′ c c′ w w′ : List ℕ} {n n′ : ℕ} → h ≡ h′ → o ≡ o′ → n ≡ n′ → p ≡ p′ → c ≡ c′ → w ≡ w′ →
+        carry H h place m n o r p c room pair ≡ carried w → carry H h′ place m n′ o′ r p′ c′ room pair ≡ carried w′
+    carry-at place m r room pair e₁ e₂ e₃ e₄ e₅ e₆ f = rw (← e₁, ← e₂, ← e₃, ← e₄, ← e₅, ← e₆) f
+
     pub honest : Honest H
-    unfolding consistency
     honest = record {
       carries = λ leaves p c w place m r₁ r₂ r₃ room pair ep ec ew fits l.
           let T = take (32 * m) leaves in
-          let n = length leaves / 32 in
           let a = path-built T p place r₁ ep in
           let b = proof-built leaves c m r₂ ec in
           let d = path-built leaves w place r₃ ew in
           let k = taken-count m leaves (b .1) in
           let t = taken-nodes m leaves (b .1) in
-          let x : place < m = let i = a .0 in omega arith in
           let size = nodes-length leaves in
-          let old = root H (nodes T) in
-          let verdict₁ : inclusionVerdict H (nodeAt place leaves) place m old p ≡ 0 =
-          sym (ap₂ (λ (i : ℕ) (y : List ℕ). inclusionVerdict H y place i old p) k (taken-at m leaves (b .1) place x)) ∙ complete H H32 .inclusion T p place r₁ ep in
-          let verdict₂ : consistencyVerdict H m n old (root H (nodes leaves)) c ≡ 0 =
-          ap (λ (y : List (List ℕ)). consistencyVerdict H m n (root H y) (root H (nodes leaves)) c) t ∙ complete H H32 .consistency leaves c m r₂ ec in
-          let np : nodes p ≡ path H place (take m (nodes leaves)) =
-          ap nodes (sym (a .1)) ∙ nodes-joined (path H place (nodes T)) (path-32 H H32 (nodes T) (let y = nodes-length T in let i = a .0 in omega arith) place (all-nodes T)) ∙ ap (path H place) t in
-          let nc : nodes c ≡ consistency H m (nodes leaves) =
-          ap nodes (sym (b .2)) ∙ nodes-joined (subproof H m (nodes leaves) true) (subproof-32 H H32 (nodes leaves) (omega arith) m true (b .0) (omega arith) (all-nodes leaves)) in
-          let at : nodeAt place leaves ≡ getD (nodes leaves) place [] = sym (ap (λ (y : List (List ℕ)). getD y place []) (nodes-first leaves) ∙ at-first n place leaves (d .0)) in
-          let own = honest-list H (nodes leaves) m place old x (omega arith) in
-          let len : 32 * inclusionCount place n ≤ room = let i = path-bytes H H32 place leaves (d .0) in let j = ap length (d .1) in omega arith in
-          long H (nodeAt place leaves) place m n old (root H (nodes leaves)) p c room pair (sym verdict₁) refl (sym verdict₂) refl len l
-          ∙ ap₂ settled (conflict-at H m place old (sym size) at np nc ∙ own .0) (ap joined (forward-at H m place old (sym size) np nc ∙ own .1) ∙ d .1)
-          ∙ settled-carried w;
+          let most = consistency-accepted H m (length leaves / 32) _ _ c (complete H H32 .consistency leaves c m r₂ ec) .in-range in
+          let at : getD (nodes leaves) place [] ≡ nodeAt place leaves = ap (λ (y : List (List ℕ)). getD y place []) (nodes-first leaves) ∙ at-first (length leaves / 32) place leaves (d .0) in
+          carry-at place m (root H (nodes leaves)) room pair at (sym (ap (root H) t)) size (ap (λ (y : List (List ℕ)). joined (path H place y)) (sym t) ∙ a .1) (b .2) (d .1)
+          (own-carried H H32 (nodes leaves) (all-nodes leaves) m place (let i = a .0 in omega arith) (omega arith) (omega arith) room pair (let j = ap length (d .1) in omega arith) l);
     }

@@ -1,3 +1,4 @@
+pub mod Calculating
 pub mod Enums
 pub mod Refusing
 pub mod Levels
@@ -12,3 +13,5 @@ pub mod Forwarding
 pub mod Carrying
 pub mod Honest
 pub mod Table
+pub mod Subtrees
+pub mod Levelling

@@ -22,7 +22,7 @@ same-cases s t = go (same s t) refl
 pub differs : (s t : List ℕ) → same s t ≡ false → s ≡ t → ⊥
 differs s t d e = false≢true (sym d ∙ same-of s t e)
 
-not-same : (s t : List ℕ) → (s ≡ t → ⊥) → same s t ≡ false
+pub not-same : (s t : List ℕ) → (s ≡ t → ⊥) → same s t ≡ false
 not-same s t h = ⊎-elim (λ e. absurd (h e)) (λ e. e) (same-cases s t)
 
 -- strings whose first children have 32 bytes are the same only if both children are

@@ -17,7 +17,7 @@ use Rattle.tree.proofs.Counting.{sub-all, sub-low}
 use Rattle.tree.proofs.Joining.{All32, all-take}
 use Rattle.carry.specs.Strings.{string}
 
-at-32 : (p : List (List ℕ)) (i : ℕ) → All32 p → i < length p → length (getD p i []) ≡ 32
+pub at-32 : (p : List (List ℕ)) (i : ℕ) → All32 p → i < length p → length (getD p i []) ≡ 32
 unfolding All32
 at-32 [] i a h = absurd (omega arith)
 at-32 (x ∷ p) zero a h = a .0

@@ -5,3 +5,6 @@ pub mod Inner
 pub mod Compares
 pub mod Carries
 pub mod Cases
+pub mod Levels
+pub mod Examples
+pub mod Claims
