@@ -1,39 +1,17 @@
--- Examples of the dispute with the pair buffer after it, where two strings have one hash: one table with one statement, over hashes so weak that
--- proofs are easily forged. Each hash is 32 bytes of one number and stands as that number, and a page is one byte. A pair buffer is 130 bytes and more
--- of 9. The heads are read from the buffer that joins them. Assumes nothing: these are statements.
+-- Examples of the dispute with the pair buffer after it, where two strings have one hash: one table with one statement, over the weak hashes of carry's
+-- examples and in their shape: a hash stands as a number, and a pair buffer is 130 bytes and more of 9. A page is one byte. The heads are read from the
+-- buffer that joins them. Assumes nothing: these are statements.
 use mathlib.Core.Path.{_≡_}
-use mathlib.Core.List.{List, [], _∷_, _++_, map}
-use Prim.Native.Nat.{ℕ, _+_, _*_, _%_}
-use lib.ListN.{length, getD, replicate}
-use Rattle.tree.specs.Joined.{joined}
-use Rattle.carry.specs.Strings.{string}
+use mathlib.Core.List.{List, [], _∷_}
+use Prim.Native.Nat.{ℕ}
+use lib.ListN.{length}
+use Rattle.carry.specs.Examples.{constant, few, hash, hashes, pair, child, written}
 use Rattle.auditor.specs.Heads.{Heads, end, then, joinedHeads, headsOf}
 use Rattle.auditor.specs.Dispute.{Finding, alike, nodes, pages, dispute, pairAfter}
-
--- every string has one hash
-abbrev pub constant : List ℕ → List ℕ
-constant s = replicate 32 0
-
--- a hash that keeps two bits: of a node's children, or of a page
-abbrev pub few : List ℕ → List ℕ
-few s = replicate 32 ((getD s 1 0 + 2 * getD s 33 0) % 4)
-
-abbrev pub hash : ℕ → List ℕ
-hash k = replicate 32 k
-
-abbrev pub hashes : List ℕ → List ℕ
-hashes ks = joined (map hash ks)
 
 -- a head by its size, its root and its path
 abbrev pub to : ℕ → ℕ → List ℕ → Heads → Heads
 to size root path hs = then size (hash root) (hashes path) hs
-
-abbrev pub pair : ℕ → List ℕ
-pair more = replicate (130 + more) 9
-
--- the string of two children
-abbrev pub child : ℕ × ℕ → List ℕ
-child c = string (hash (c .0)) (hash (c .1))
 
 -- what is found: two strings by their children, the pages, or nothing
 pub data Found : Type 0 where
@@ -48,7 +26,7 @@ pub data Row : Type 0 where
 
 -- it is found, with this pair buffer after it
 abbrev pub Finds : Finding → ℕ → Found → Type 0
-Finds d more (strings s t) = (d ≡ nodes (child s) (child t)) × (pairAfter d (pair more) ≡ child s ++ (child t ++ replicate more 9))
+Finds d more (strings s t) = (d ≡ nodes (child s) (child t)) × (pairAfter d (pair more) ≡ written s t more)
 Finds d more two-pages = (d ≡ pages) × (pairAfter d (pair more) ≡ pair more)
 Finds d more nothing = (d ≡ alike) × (pairAfter d (pair more) ≡ pair more)
 
