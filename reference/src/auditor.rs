@@ -196,6 +196,30 @@ pub fn join_head(size: u64, root: &[u8], path: &[u8], heads: &mut Vec<u8>) {
     heads.extend(path);
 }
 
+/// The most nodes that a head's count can say.
+pub const MOST_COUNT: usize = 65_535;
+
+/// A journal: heads joined one after the other in a lent buffer, of which so many
+/// bytes are used. Gives how many are used with this head, or refuses with 5 for a
+/// root not of 32 bytes or a path of more nodes than the count can say, 10, or 9
+/// where the head does not fit behind what is used.
+pub fn append(journal: &mut [u8], used: u64, size: u64, root: &[u8], path: &[u8]) -> Result<u64, u64> {
+    if root.len() != 32 || path.len() > 32 * MOST_COUNT {
+        return Err(5);
+    }
+    if hashes(path).is_none() {
+        return Err(10);
+    }
+    let mut head = Vec::new();
+    join_head(size, root, path, &mut head);
+    let end = used.checked_add(head.len() as u64).ok_or(9u64)?;
+    match journal.get_mut(used as usize..end as usize) {
+        Some(room) => room.copy_from_slice(&head),
+        None => return Err(9),
+    }
+    Ok(end)
+}
+
 /// Takes the first head off: size, root and path, or `None` where it is cut short.
 fn next_head<'a>(heads: &mut &'a [u8]) -> Option<(u64, &'a [u8], &'a [u8])> {
     let mut take = |count: usize| {
@@ -324,6 +348,41 @@ mod tests {
         assert_eq!(bad(|o| o.size = MOST_LEAVES + 1), 6);
         assert_eq!(bad(|o| o.path.extend([0; 32])), 7);
         assert_eq!(page(digest, &None, &PageCall { place: 0, page: vec![0; LONGEST_ITEM + 1], path: vec![] }), 14);
+    }
+
+    #[test]
+    fn journal() {
+        let mut journal = [7; 200];
+        assert_eq!(append(&mut journal, 3, 258, &[1; 32], &[]), Ok(45));
+        assert_eq!(append(&mut journal, 45, 1 << 56, &[2; 32], &[3; 64]), Ok(151));
+        let first = [&[0, 0, 0, 0, 0, 0, 1, 2][..], &[1; 32], &[0, 0]].concat();
+        let second = [&[1, 0, 0, 0, 0, 0, 0, 0][..], &[2; 32], &[0, 2], &[3; 64]].concat();
+        assert_eq!(journal[..], [&[7; 3][..], &first, &second, &[7; 49]].concat());
+        let mut rest = &journal[3..151];
+        assert_eq!(next_head(&mut rest), Some((258, &[1; 32][..], &[][..])));
+        assert_eq!(next_head(&mut rest), Some((1 << 56, &[2; 32][..], &[3; 64][..])));
+        assert_eq!(rest, b"");
+
+        let before = journal;
+        let most = vec![0; 32 * MOST_COUNT];
+        let more = vec![0; 32 * MOST_COUNT + 1];
+        for (used, root, path, refusal) in [
+            (151, &[1; 31][..], &[1][..], 5),
+            (201, &[1; 33], &[], 5),
+            (151, &[1; 32], &more, 5),
+            (151, &[1; 32], &[1; 33], 10),
+            (201, &[1; 32], &[1; 31], 10),
+            (151, &[1; 32], &most, 9),
+            (151, &[1; 32], &[1; 32], 9),
+            (159, &[1; 32], &[], 9),
+            (201, &[1; 32], &[], 9),
+            (u64::MAX, &[1; 32], &[], 9),
+            (u64::MAX - 41, &[1; 32], &[], 9),
+        ] {
+            assert_eq!(append(&mut journal, used, 1, root, path), Err(refusal), "{used} {} {}", root.len(), path.len());
+            assert_eq!(journal, before);
+        }
+        assert_eq!(append(&mut journal, 158, 1, &[1; 32], &[]), Ok(200));
     }
 
     #[test]

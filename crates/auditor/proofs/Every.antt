@@ -2,50 +2,59 @@
 -- prove it. Assumes nothing.
 use mathlib.Core.Path.{_≡_, refl, sym, ap, ap₂, _∙_}
 use mathlib.Core.List.{List, [], _∷_, _++_}
-use Prim.Native.Nat.{ℕ, _≤_}
-use lib.ListN.{length}
+use Prim.Native.Nat.{ℕ, zero, suc, _≤_}
+use lib.ListN.{length, take}
 use contract.Lifetimes.{Lfts}
 use denote.Ref.{RefT}
 use Rattle.auditor.specs.declared.Record.{Record}
 use Rattle.auditor.specs.declared.Answered.{Answered}
 use Rattle.auditor.specs.declared.dispute.Settled.{Settled}
+use Rattle.auditor.specs.declared.journal.Appended.the-variants.{Used}
 use Rattle.auditor.specs.Held.{none}
 use Rattle.auditor.specs.Heads.{lastSize, lastRoot, joinedHeads}
-use Rattle.auditor.specs.Calls.{Call, offer, ask, Entry, answered, called, answers, heads}
+use Rattle.auditor.specs.Calls.{Call, offer, ask, Entry, answered, called, answers, final, heads}
 use Rattle.auditor.specs.Dispute.{settling}
 use Rattle.auditor.specs.Demand.{Tells, Settles}
+use Rattle.sha256.specs.Told.{done}
+use Rattle.auditor.specs.Journal.{append, report, journalAfter}
+use Rattle.auditor.specs.Keeping.{kept, noted, onward, journaled}
 use Rattle.auditor.proofs.Settling.{whatever-given, demand3}
+use Rattle.auditor.proofs.Keeping.{as-kept}
 use Rattle.auditor.proofs.empty.Reads as empty-reads
 use Rattle.auditor.proofs.head.offer.Reads as offer-reads
 use Rattle.auditor.proofs.page.ask.Reads as ask-reads
 use Rattle.auditor.proofs.dispute.dispute.Reads as dispute-reads
+use Rattle.auditor.proofs.journal.append.Reads as append-reads
 
--- what was called and answered, where each call got the record that the one before returned
-pub data Run : Record → List Entry → Type 0 where
-  stop : {r : Record} → Run r []
-  offers : {r : Record} {es : List Entry} (κs : Lfts 3) (id : RefT (List ℕ)) (time size : ℕ) (root path : RefT (List ℕ)) (o : Answered) →
+-- what was called and answered, where each call got the record that the one before returned, and the record after it
+pub data Run : Record → List Entry → Record → Type 0 where
+  stop : {r : Record} → Run r [] r
+  offers : {r s : Record} {es : List Entry} (κs : Lfts 3) (id : RefT (List ℕ)) (time size : ℕ) (root path : RefT (List ℕ)) (o : Answered) →
       offer-reads.Learnt κs (r, (id, (time, (size, (root, (path, tt)))))) o (r, (id, (time, (size, (root, (path, tt)))))) →
-      Run (o .after) es → Run r (answered (offer (id .now) time size (root .now) (path .now)) (o .number) ∷ es)
-  asks : {r : Record} {es : List Entry} (κs : Lfts 2) (place : ℕ) (page path : RefT (List ℕ)) (o : Answered) →
+      Run (o .after) es s → Run r (answered (offer (id .now) time size (root .now) (path .now)) (o .number) ∷ es) s
+  asks : {r s : Record} {es : List Entry} (κs : Lfts 2) (place : ℕ) (page path : RefT (List ℕ)) (o : Answered) →
       ask-reads.Learnt κs (r, (place, (page, (path, tt)))) o (r, (place, (page, (path, tt)))) →
-      Run (o .after) es → Run r (answered (ask place (page .now) (path .now)) (o .number) ∷ es)
+      Run (o .after) es s → Run r (answered (ask place (page .now) (path .now)) (o .number) ∷ es) s
 
 -- such a run is the list of answers of a list of calls
-one-more : (r : Record) (c : Call) (o : Answered) (calls : List Call) (es : List Entry) → o ≡ called r c → answers (o .after) calls ≡ es → answers r (c ∷ calls) ≡ answered c (o .number) ∷ es
-unfolding answers
-one-more r c o calls es e f = rw (← e) (ap (λ (fs : List Entry). answered c (o .number) ∷ fs) f)
+Lists : Record → List Entry → Record → List Call → Type 0
+Lists r es s calls = (answers r calls ≡ es) × (final r calls ≡ s)
 
-listed : (r : Record) (es : List Entry) → Run r es → (calls : List Call) × (answers r calls ≡ es)
-unfolding answers called
-listed r es stop = ([], refl)
-listed r es (offers κs id time size root path o p rest) =
-    let w = listed (o .after) _ rest in
+one-more : (r s : Record) (c : Call) (o : Answered) (calls : List Call) (es : List Entry) → o ≡ called r c → Lists (o .after) es s calls → Lists r (answered c (o .number) ∷ es) s (c ∷ calls)
+unfolding Lists answers final
+one-more r s c o calls es e f = rw (← e) (ap (λ (fs : List Entry). answered c (o .number) ∷ fs) (f .0), f .1)
+
+listed : (r s : Record) (es : List Entry) → Run r es s → (calls : List Call) × Lists r es s calls
+unfolding Lists answers final called
+listed r s es stop = ([], (refl, refl))
+listed r s es (offers κs id time size root path o p rest) =
+    let w = listed (o .after) s _ rest in
     let c = offer (id .now) time size (root .now) (path .now) in
-    (c ∷ w .0, one-more r c o (w .0) _ p (w .1))
-listed r es (asks κs place page path o p rest) =
-    let w = listed (o .after) _ rest in
+    (c ∷ w .0, one-more r s c o (w .0) _ p (w .1))
+listed r s es (asks κs place page path o p rest) =
+    let w = listed (o .after) s _ rest in
     let c = ask place (page .now) (path .now) in
-    (c ∷ w .0, one-more r c o (w .0) _ p (w .1))
+    (c ∷ w .0, one-more r s c o (w .0) _ p (w .1))
 
 -- whatever the dispute is given
 pub tells :
@@ -57,14 +66,94 @@ tells κs place size page₁ path₁ root between page₂ path₂ pair pair′ d
 
 -- over every run from the empty record
 pub every :
-    (start : Record) → empty-reads.Learnt tt tt start tt →
+    (start end : Record) → empty-reads.Learnt tt tt start tt →
     (before between rest : List Entry) (place : ℕ) (page₁ path₁ page₂ path₂ : RefT (List ℕ)) →
-    Run start (before ++ (answered (ask place (page₁ .now) (path₁ .now)) 0 ∷ (between ++ (answered (ask place (page₂ .now) (path₂ .now)) 0 ∷ rest)))) →
+    Run start (before ++ (answered (ask place (page₁ .now) (path₁ .now)) 0 ∷ (between ++ (answered (ask place (page₂ .now) (path₂ .now)) 0 ∷ rest)))) end →
     (κs : Lfts 7) (size : ℕ) (root joined pair pair′ : RefT (List ℕ)) (d : Settled) →
     size ≡ lastSize 0 (heads before) → root .now ≡ lastRoot [] (heads before) → joined .now ≡ joinedHeads (heads between) → 130 ≤ length (pair .now) →
     dispute-reads.Learnt κs (page₁, (place, (path₁, (size, (root, (joined, (page₂, (path₂, (pair, tt))))))))) d (page₁, (place, (path₁, (size, (root, (joined, (page₂, (path₂, (pair′, tt))))))))) →
     Settles (page₁ .now) (page₂ .now) (settling d) (pair′ .now)
-every start s before between rest place page₁ path₁ page₂ path₂ run κs size root joined pair pair′ d es er ej long p =
-    let w = listed start _ run in
-    let e = ap (λ (r : Record). answers r (w .0)) (sym s) ∙ w .1 in
+unfolding Lists
+every start end s before between rest place page₁ path₁ page₂ path₂ run κs size root joined pair pair′ d es er ej long p =
+    let w = listed start end _ run in
+    let e = ap (λ (r : Record). answers r (w .0)) (sym s) ∙ w .1 .0 in
     rw (p .0, p .1, es, er, ej) (demand3 (w .0) before between rest place (page₁ .now) (path₁ .now) (page₂ .now) (path₂ .now) (pair .now) e long)
+
+-- ---- the same with a journal
+
+-- A run in which the program appends each accepted head to its journal: with the buffer and how much of it is used, before and after.
+pub data Journals : Record → List Entry → Record → List ℕ → ℕ → List ℕ → ℕ → Type 0 where
+  stop : {r : Record} {bytes : List ℕ} {used : ℕ} → Journals r [] r bytes used bytes used
+  takes :
+      {r s : Record} {es : List Entry} {bytes : List ℕ} {used : ℕ} (κs : Lfts 3) (id : RefT (List ℕ)) (time size : ℕ) (root path : RefT (List ℕ)) (o : Answered) →
+      offer-reads.Learnt κs (r, (id, (time, (size, (root, (path, tt)))))) o (r, (id, (time, (size, (root, (path, tt)))))) → o .number ≡ 0 →
+      (κs₂ : Lfts 3) (lent left : RefT (List ℕ)) (start more : ℕ) →
+      append-reads.Learnt κs₂ (lent, (start, (size, (root, (path, tt))))) (Used more) (left, (start, (size, (root, (path, tt))))) →
+      Journals (o .after) es s (left .now) more bytes used →
+      Journals r (answered (offer (id .now) time size (root .now) (path .now)) (o .number) ∷ es) s (lent .now) start bytes used
+  refuses :
+      {r s : Record} {es : List Entry} {lent bytes : List ℕ} {start used : ℕ} (κs : Lfts 3) (id : RefT (List ℕ)) (time size : ℕ) (root path : RefT (List ℕ)) (o : Answered) →
+      offer-reads.Learnt κs (r, (id, (time, (size, (root, (path, tt)))))) o (r, (id, (time, (size, (root, (path, tt)))))) → (o .number ≡ 0 → ⊥) →
+      Journals (o .after) es s lent start bytes used →
+      Journals r (answered (offer (id .now) time size (root .now) (path .now)) (o .number) ∷ es) s lent start bytes used
+  asks :
+      {r s : Record} {es : List Entry} {lent bytes : List ℕ} {start used : ℕ} (κs : Lfts 2) (place : ℕ) (page path : RefT (List ℕ)) (o : Answered) →
+      ask-reads.Learnt κs (r, (place, (page, (path, tt)))) o (r, (place, (page, (path, tt)))) →
+      Journals (o .after) es s lent start bytes used → Journals r (answered (ask place (page .now) (path .now)) (o .number) ∷ es) s lent start bytes used
+
+-- it is a run, and its journal is that of its entries
+ran : (r s : Record) (es : List Entry) (lent bytes : List ℕ) (start used : ℕ) → Journals r es s lent start bytes used → Run r es s
+ran r s es lent bytes start used stop = stop
+ran r s es lent bytes start used (takes κs id time size root path o p z κs₂ l left st more q rest) =
+    offers κs id time size root path o p (ran (o .after) s _ (left .now) bytes more used rest)
+ran r s es lent bytes start used (refuses κs id time size root path o p z rest) = offers κs id time size root path o p (ran (o .after) s _ lent bytes start used rest)
+ran r s es lent bytes start used (asks κs place page path o p rest) = asks κs place page path o p (ran (o .after) s _ lent bytes start used rest)
+
+appended : (id : List ℕ) (time size : ℕ) (root path lent left bytes : List ℕ) (start more used n : ℕ) (es : List Entry) → n ≡ 0 →
+    (let o = append (length lent) start size root path in (done more ≡ report start o) × (left ≡ journalAfter start o lent)) → journaled es left more ≡ kept bytes used →
+    journaled (answered (offer id time size root path) n ∷ es) lent start ≡ kept bytes used
+unfolding journaled noted onward
+appended id time size root path lent left bytes start more used n es z p e = rw (z, ← (p .0), ← (p .1)) e
+
+passed-over : (id : List ℕ) (time size : ℕ) (root path lent : List ℕ) (start n : ℕ) (es : List Entry) → (n ≡ 0 → ⊥) → journaled (answered (offer id time size root path) n ∷ es) lent start ≡ journaled es lent start
+unfolding journaled
+passed-over id time size root path lent start zero es z = absurd (z refl)
+passed-over id time size root path lent start (suc n) es z = refl
+
+its-journal : (r s : Record) (es : List Entry) (lent bytes : List ℕ) (start used : ℕ) → Journals r es s lent start bytes used → journaled es lent start ≡ kept bytes used
+unfolding journaled
+its-journal r s es lent bytes start used stop = refl
+its-journal r s es lent bytes start used (takes {es = fs} κs id time size root path o p z κs₂ l left st more q rest) =
+    appended (id .now) time size (root .now) (path .now) (l .now) (left .now) bytes st more used (o .number) fs z q (its-journal (o .after) s fs (left .now) bytes more used rest)
+its-journal r s es lent bytes start used (refuses {es = fs} κs id time size root path o p z rest) =
+    passed-over (id .now) time size (root .now) (path .now) lent start (o .number) fs z ∙ its-journal (o .after) s fs lent bytes start used rest
+its-journal r s es lent bytes start used (asks {es = fs} κs place page path o p rest) = its-journal (o .after) s fs lent bytes start used rest
+
+-- over every such run: the record that the first page call got has the size and root, and the journal's used part the heads
+pub every-kept :
+    (start held held₂ : Record) → empty-reads.Learnt tt tt start tt →
+    (before between : List Entry) (place : ℕ) (page₁ path₁ page₂ path₂ : RefT (List ℕ)) (κs₁ κs₂ : Lfts 2) (first second : Answered) (lent bytes : List ℕ) (used : ℕ) →
+    Run start before held →
+    ask-reads.Learnt κs₁ (held, (place, (page₁, (path₁, tt)))) first (held, (place, (page₁, (path₁, tt)))) → first .number ≡ 0 →
+    Journals (first .after) between held₂ lent 0 bytes used →
+    ask-reads.Learnt κs₂ (held₂, (place, (page₂, (path₂, tt)))) second (held₂, (place, (page₂, (path₂, tt)))) → second .number ≡ 0 →
+    (κs : Lfts 7) (root joined pair pair′ : RefT (List ℕ)) (d : Settled) →
+    root .now ≡ held .root → joined .now ≡ take used bytes → 130 ≤ length (pair .now) →
+    dispute-reads.Learnt κs (page₁, (place, (path₁, (held .size, (root, (joined, (page₂, (path₂, (pair, tt))))))))) d (page₁, (place, (path₁, (held .size, (root, (joined, (page₂, (path₂, (pair′, tt))))))))) →
+    Settles (page₁ .now) (page₂ .now) (settling d) (pair′ .now)
+unfolding Lists called
+every-kept start held held₂ s before between place page₁ path₁ page₂ path₂ κs₁ κs₂ first second lent bytes used run a z js b y κs root joined pair pair′ d er ej long p =
+    let w = listed start held before run in
+    let v = listed (first .after) held₂ between (ran (first .after) held₂ between lent bytes 0 used js) in
+    let e : final none (w .0) ≡ held = ap (λ (r : Record). final r (w .0)) (sym s) ∙ w .1 .1 in
+    let c₁ = ask place (page₁ .now) (path₁ .now) in
+    let c₂ = ask place (page₂ .now) (path₂ .now) in
+    let g : called (final none (w .0)) c₁ ≡ first = ap (λ (r : Record). called r c₁) e ∙ sym a in
+    let j : journaled (answers (called (final none (w .0)) c₁ .after) (v .0)) lent 0 ≡ kept bytes used =
+    ap (λ (o : Answered). journaled (answers (o .after) (v .0)) lent 0) g ∙ ap (λ (es : List Entry). journaled es lent 0) (v .1 .0)
+    ∙ its-journal (first .after) held₂ between lent bytes 0 used js in
+    let f : called (final (called (final none (w .0)) c₁ .after) (v .0)) c₂ ≡ second =
+    ap (λ (o : Answered). called (final (o .after) (v .0)) c₂) g ∙ ap (λ (r : Record). called r c₂) (v .1 .1) ∙ sym b in
+    let k = as-kept (w .0) (v .0) place (page₁ .now) (path₁ .now) (page₂ .now) (path₂ .now) lent bytes used (pair .now)
+    (ap (λ (o : Answered). o .number) g ∙ z) j (ap (λ (o : Answered). o .number) f ∙ y) long in
+    rw (p .0, p .1, er, ej) (rw e at k)

@@ -1,7 +1,7 @@
 -- What an auditor's record holds over every list of calls: the code's answers are the paper's, and the record is the head that was accepted last, which
 -- never goes back. Assumes nothing.
-use mathlib.Core.Path.{_≡_, refl, sym, ap, _∙_}
-use mathlib.Core.List.{List, [], _∷_, _++_}
+use mathlib.Core.Path.{_≡_, refl, sym, ap, ap₂, _∙_}
+use mathlib.Core.List.{List, [], _∷_, _++_, map}
 use Prim.Native.Nat.{ℕ, zero, suc, _^_, _≤_, _<_}
 use native.Mathlib.Omega.{arith}
 use lib.Dec.{ltb}
@@ -20,8 +20,8 @@ use Rattle.auditor.specs.Held.{Held, empty, head, view, none, holding}
 use Rattle.auditor.specs.Offer.{offerNumber, kept, keptRecord, offered}
 use Rattle.auditor.specs.Page.{pageNumber, asked}
 use Rattle.auditor.specs.Heads.{Heads, then}
-use Rattle.auditor.specs.Calls.{Call, offer, ask, Entry, answered, called, answers, final, number, after, run, heads}
-use Rattle.auditor.specs.Claims.{lastHead, HeldIsAccepted, NeverBack}
+use Rattle.auditor.specs.Calls.{Call, offer, ask, Entry, answered, called, answers, final, callOf, accepted, number, after, run, heads}
+use Rattle.auditor.specs.Claims.{lastHead, HeldIsAccepted, RefusedAddNothing, NeverBack}
 use Rattle.auditor.proofs.Offering.{taken}
 use Rattle.auditor.proofs.Reading.{Fits}
 
@@ -67,6 +67,27 @@ held-last (ask place page path ∷ calls) r = held-last calls r
 pub held-is-accepted : HeldIsAccepted
 held-is-accepted calls = held-last calls none ∙ ap (λ (held : Held). lastHead held (answers none calls)) view-none
 
+-- a call that answers no 0 returns the record that it got
+stays : (r : Record) (c : Call) (n : ℕ) → called r c .number ≡ suc n → called r c .after ≡ r
+unfolding called offered asked keptRecord
+stays r (offer id time size root path) n e = rw e
+stays r (ask place page path) n e = refl
+
+-- a call in front of others of which it is said
+Adds : Record → Record → List Call → List Entry → Type 0
+Adds r next calls es = (answers r (map callOf es) ≡ es) × (final r (map callOf es) ≡ final next calls)
+
+one-call : (r : Record) (c : Call) (calls : List Call) (n : ℕ) → called r c .number ≡ n → Adds (called r c .after) (called r c .after) calls (accepted (answers (called r c .after) calls)) →
+    Adds r (called r c .after) calls (accepted (answered c n ∷ answers (called r c .after) calls))
+unfolding Adds answers final accepted callOf
+one-call r c calls zero e i = (ap₂ (λ (n : ℕ) (es : List Entry). answered c n ∷ es) e (i .0), i .1)
+one-call r c calls (suc n) e i = let s = stays r c n e in rw s (rw s at i)
+
+pub refused-add-nothing : RefusedAddNothing
+unfolding Adds answers final accepted
+refused-add-nothing r [] = (refl, refl)
+refused-add-nothing r (c ∷ calls) = one-call r c calls (called r c .number) refl (refused-add-nothing (called r c .after) calls)
+
 module _ (H : List ℕ → List ℕ) where
   -- each entry's number is what its call answers over the record then held
   unfoldable pub Runs : Held → List Entry → Type 0
@@ -93,20 +114,21 @@ module _ (H : List ℕ → List ℕ) where
       let p = pass (ltb mostItem (length page)) 0 _ e in
       (ltb-false mostItem (length page) (p .0), p .1)
 
-  -- a record that holds a head of a log, of no smaller size and no earlier timestamp
-  Since : List ℕ → ℕ → ℕ → Held → Type 0
-  Since id time size empty = ⊥
-  Since id time size (head id₂ time₂ size₂ root₂) = (id ≡ id₂) × (size ≤ size₂) × (time ≤ time₂)
+  -- a record that holds a head of a log, of no smaller size and no earlier timestamp, and of the same root where it has the same size
+  Since : List ℕ → ℕ → ℕ → List ℕ → Held → Type 0
+  Since id time size root empty = ⊥
+  Since id time size root (head id₂ time₂ size₂ root₂) = (id ≡ id₂) × (size ≤ size₂) × (time ≤ time₂) × (size ≡ size₂ → root ≡ root₂)
 
-  module _ (id : List ℕ) (time size : ℕ) where
-    since-offer : (held : Held) (id₂ : List ℕ) (time₂ size₂ : ℕ) (root₂ path₂ : List ℕ) → Since id time size held → number H held (offer id₂ time₂ size₂ root₂ path₂) ≡ 0 → (id ≡ id₂) × (size ≤ size₂) × (time ≤ time₂)
+  module _ (id : List ℕ) (time size : ℕ) (root : List ℕ) where
+    since-offer : (held : Held) (id₂ : List ℕ) (time₂ size₂ : ℕ) (root₂ path₂ : List ℕ) → Since id time size root held → number H held (offer id₂ time₂ size₂ root₂ path₂) ≡ 0 → (id ≡ id₂) × (size ≤ size₂) × (time ≤ time₂) × (size ≡ size₂ → root ≡ root₂)
     unfolding Since number
     since-offer empty id₂ time₂ size₂ root₂ path₂ s e = absurd s
     since-offer (head id₁ time₁ size₁ root₁) id₂ time₂ size₂ root₂ path₂ s e =
         let t = taken H id₁ time₁ size₁ root₁ id₂ time₂ size₂ root₂ path₂ e in
-        (s .0 ∙ t .one-log, omega arith, omega arith)
+        let a = t .no-smaller in
+        (s .0 ∙ t .one-log, omega arith, omega arith, λ q. s .3 (omega arith) ∙ t .one-root (omega arith))
 
-    since : (es fs : List Entry) (held : Held) → Since id time size held → Runs held (es ++ fs) → Since id time size (lastHead held es)
+    since : (es fs : List Entry) (held : Held) → Since id time size root held → Runs held (es ++ fs) → Since id time size root (lastHead held es)
     unfolding Since Runs after kept lastHead
     since [] fs held s w = s
     since (answered (offer id₂ time₂ size₂ root₂ path₂) zero ∷ es) fs held s w =
@@ -116,15 +138,15 @@ module _ (H : List ℕ → List ℕ) where
 
   never : (calls : List Call) (before between rest : List Entry) (id₁ id₂ : List ℕ) (time₁ time₂ size₁ size₂ : ℕ) (root₁ root₂ path₁ path₂ : List ℕ) →
       run H empty calls ≡ before ++ (answered (offer id₁ time₁ size₁ root₁ path₁) 0 ∷ (between ++ (answered (offer id₂ time₂ size₂ root₂ path₂) 0 ∷ rest))) →
-      (id₁ ≡ id₂) × (size₁ ≤ size₂) × (time₁ ≤ time₂)
+      (id₁ ≡ id₂) × (size₁ ≤ size₂) × (time₁ ≤ time₂) × (size₁ ≡ size₂ → root₁ ≡ root₂)
   unfolding Runs after kept Since
   never calls before between rest id₁ id₂ time₁ time₂ size₁ size₂ root₁ root₂ path₁ path₂ e =
       let w : Runs empty (before ++ (answered (offer id₁ time₁ size₁ root₁ path₁) 0 ∷ (between ++ (answered (offer id₂ time₂ size₂ root₂ path₂) 0 ∷ rest)))) = rw e at (runs calls empty) in
       let l = later before (answered (offer id₁ time₁ size₁ root₁ path₁) 0 ∷ (between ++ (answered (offer id₂ time₂ size₂ root₂ path₂) 0 ∷ rest))) empty w in
       let first = head id₁ time₁ size₁ root₁ in
-      let s = since id₁ time₁ size₁ between (answered (offer id₂ time₂ size₂ root₂ path₂) 0 ∷ rest) first (refl, omega arith, omega arith) (l .1) in
+      let s = since id₁ time₁ size₁ root₁ between (answered (offer id₂ time₂ size₂ root₂ path₂) 0 ∷ rest) first (refl, omega arith, omega arith, λ q. refl) (l .1) in
       let k = later between (answered (offer id₂ time₂ size₂ root₂ path₂) 0 ∷ rest) first (l .1) in
-      since-offer id₁ time₁ size₁ (lastHead first between) id₂ time₂ size₂ root₂ path₂ s (k .0)
+      since-offer id₁ time₁ size₁ root₁ (lastHead first between) id₂ time₂ size₂ root₂ path₂ s (k .0)
 
   -- a record that holds some head
   unfoldable pub Some : Held → Type 0

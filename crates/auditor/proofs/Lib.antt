@@ -4,10 +4,13 @@ pub mod Copying
 pub mod Offering
 pub mod Asking
 pub mod Reading
+pub mod Journaling
 pub mod Telling
 pub mod Following
 pub mod Disputing
 pub mod Holding
 pub mod Settling
+pub mod Keeping
+pub mod Computing
 pub mod Serving
 pub mod Every

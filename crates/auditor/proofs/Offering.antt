@@ -58,6 +58,7 @@ pub record Taken (H : List ℕ → List ℕ) (id₀ : List ℕ) (time₀ size₀
   pub one-log : id₀ ≡ id
   pub no-smaller : size₀ ≤ size
   pub no-earlier : time₀ ≤ time
+  pub one-root : size₀ ≡ size → root₀ ≡ root
   pub consistent : consistencyVerdict H size₀ size root₀ root path ≡ 0
 
 pub taken : (H : List ℕ → List ℕ) (id₀ : List ℕ) (time₀ size₀ : ℕ) (root₀ id : List ℕ) (time size : ℕ) (root path : List ℕ) → offerNumber H (head id₀ time₀ size₀ root₀) id time size root path ≡ 0 → Taken H id₀ time₀ size₀ root₀ id time size root path
@@ -71,6 +72,7 @@ taken H id₀ time₀ size₀ root₀ id time size root path e =
       one-log = same-true _ _ (not-false _ (a .0));
       no-smaller = ltb-false _ _ (or-false (outside size) (ltb size size₀) (b .0) .1);
       no-earlier = ltb-false _ _ (c .0);
+      one-root = λ q. sym (same-true _ _ (not-false _ (rw (eq-eqb size size₀ (sym q)) at (d .0))));
       consistent = d .1;
     }
 

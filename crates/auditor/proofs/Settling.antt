@@ -40,12 +40,12 @@ use Rattle.auditor.proofs.Disputing.{followed}
 use Rattle.auditor.proofs.Holding.{same-answers, Runs, runs, later, shown, Some, some-page, consistent-fits, heads-fit}
 
 -- the record holds this size and root, or nothing
-Agrees : Held → ℕ → List ℕ → Type 0
+unfoldable pub Agrees : Held → ℕ → List ℕ → Type 0
 Agrees empty m r = Unit {0}
 Agrees (head id time size root) m r = (size ≡ m) × (root ≡ r)
 
 -- what the record holds is the last accepted head's
-agrees : (es : List Entry) (held : Held) (m : ℕ) (r : List ℕ) → Agrees held m r → Agrees (lastHead held es) (lastSize m (heads es)) (lastRoot r (heads es))
+pub agrees : (es : List Entry) (held : Held) (m : ℕ) (r : List ℕ) → Agrees held m r → Agrees (lastHead held es) (lastSize m (heads es)) (lastRoot r (heads es))
 unfolding lastHead heads lastSize lastRoot Agrees
 agrees [] held m r a = a
 agrees (answered (offer id time size root path) zero ∷ es) held m r a = agrees es (head id time size root) size root (refl, refl)
@@ -261,9 +261,18 @@ demand3 calls before between rest place page₁ path₁ page₂ path₂ pair e l
     (heads-fit sha256 calls before between (answered (ask place page₂ path₂) 0 ∷ rest) place page₁ path₁ f)
     (demand sha256 sha256-length calls before between rest place page₁ path₁ page₂ path₂ (length pair) f long)
 
-pub two-auditors : TwoAuditors
+-- from the page of one auditor to the page of another
+one-way : (calls₁ calls₂ : List Call) (before₁ rest₁ before₂ rest₂ : List Entry) (place : ℕ) (page₁ path₁ page₂ path₂ proof pair : List ℕ) →
+    answers none calls₁ ≡ before₁ ++ (answered (ask place page₁ path₁) 0 ∷ rest₁) → answers none calls₂ ≡ before₂ ++ (answered (ask place page₂ path₂) 0 ∷ rest₂) →
+    (let m = lastSize 0 (heads before₁) in
+    let r = lastRoot [] (heads before₁) in
+    let n = lastSize 0 (heads before₂) in
+    let s = lastRoot [] (heads before₂) in
+    130 ≤ length pair → consistencyVerdict sha256 m n r s proof ≡ 0 →
+    (let d = dispute sha256 page₁ place path₁ m r (headsOf (joinedHeads (then n s proof end))) page₂ path₂ (length pair) in
+    Settles page₁ page₂ (report d) (pairAfter d pair)))
 unfolding Chain lastSize lastRoot Fits
-two-auditors calls₁ calls₂ before₁ rest₁ before₂ rest₂ place page₁ path₁ page₂ path₂ proof pair e₁ e₂ c long =
+one-way calls₁ calls₂ before₁ rest₁ before₂ rest₂ place page₁ path₁ page₂ path₂ proof pair e₁ e₂ long c =
     let m = lastSize 0 (heads before₁) in
     let r = lastRoot [] (heads before₁) in
     let n = lastSize 0 (heads before₂) in
@@ -273,3 +282,7 @@ two-auditors calls₁ calls₂ before₁ rest₁ before₂ rest₂ place page₁
     settles page₁ place path₁ m r (then n s proof end) page₂ path₂ pair
     (consistent-fits sha256 m n r s proof end c tt)
     (not-refused sha256 sha256-length place page₁ path₁ m r (then n s proof end) page₂ path₂ (length pair) (c, tt) (a .2) (b .2) long)
+
+pub two-auditors : TwoAuditors
+two-auditors calls₁ calls₂ before₁ rest₁ before₂ rest₂ place page₁ path₁ page₂ path₂ proof pair e₁ e₂ long =
+    (one-way calls₁ calls₂ before₁ rest₁ before₂ rest₂ place page₁ path₁ page₂ path₂ proof pair e₁ e₂ long, one-way calls₂ calls₁ before₂ rest₂ before₁ rest₁ place page₂ path₂ page₁ path₁ proof pair e₂ e₁ long)

@@ -46,6 +46,16 @@ module _ (H : List ℕ → List ℕ) where
   run held [] = []
   run held (c ∷ calls) = answered c (number held c) ∷ run (after held c (number held c)) calls
 
+-- the call of an entry
+unfoldable pub callOf : Entry → Call
+callOf (answered c n) = c
+
+-- the entries of accepted calls
+unfoldable pub accepted : List Entry → List Entry
+accepted [] = []
+accepted (answered c zero ∷ entries) = answered c zero ∷ accepted entries
+accepted (answered c (suc n) ∷ entries) = accepted entries
+
 -- the heads accepted, in order, by the arguments of their offers
 unfoldable pub heads : List Entry → Heads
 heads [] = end

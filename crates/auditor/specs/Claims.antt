@@ -10,10 +10,11 @@ use Rattle.tree.specs.Tree.{leaf, root}
 use Rattle.tree.specs.Joined.{nodes, joined}
 use Rattle.tree.specs.Build.{wrote, inclusionBuilt, consistencyBuilt}
 use Rattle.sha256.specs.Told.{Told}
+use Rattle.auditor.specs.declared.Record.{Record}
 use Rattle.auditor.specs.Held.{Held, empty, head, view, none}
 use Rattle.auditor.specs.Heads.{lastSize, lastRoot, joinedHeads, headsOf}
 use Rattle.auditor.specs.Dispute.{Ruling, dispute, report}
-use Rattle.auditor.specs.Calls.{Call, offer, ask, Entry, answered, answers, final, heads}
+use Rattle.auditor.specs.Calls.{Call, offer, ask, Entry, answered, answers, final, callOf, accepted, heads}
 
 -- the head of the last accepted offer
 unfoldable pub lastHead : Held → List Entry → Held
@@ -26,12 +27,19 @@ lastHead held (answered (ask place page path) n ∷ entries) = lastHead held ent
 abbrev pub HeldIsAccepted : Type 0
 HeldIsAccepted = (calls : List Call) → view (final none calls) ≡ lastHead empty (answers none calls)
 
--- of two accepted heads the later has the log id of the earlier, no smaller size and no earlier timestamp
+-- Refused calls add nothing, from any record: left out of the list, the calls that are left answer as they did, and the last record is the same.
+abbrev pub RefusedAddNothing : Type 0
+RefusedAddNothing =
+    (r : Record) (calls : List Call) →
+    (let es = accepted (answers r calls) in
+    (answers r (map callOf es) ≡ es) × (final r (map callOf es) ≡ final r calls))
+
+-- of two accepted heads the later has the log id of the earlier, no smaller size and no earlier timestamp, and the same root where it has the same size
 abbrev pub NeverBack : Type 0
 NeverBack =
     (calls : List Call) (before between rest : List Entry) (id₁ id₂ : List ℕ) (time₁ time₂ size₁ size₂ : ℕ) (root₁ root₂ path₁ path₂ : List ℕ) →
     answers none calls ≡ before ++ (answered (offer id₁ time₁ size₁ root₁ path₁) 0 ∷ (between ++ (answered (offer id₂ time₂ size₂ root₂ path₂) 0 ∷ rest))) →
-    (id₁ ≡ id₂) × (size₁ ≤ size₂) × (time₁ ≤ time₂)
+    (id₁ ≡ id₂) × (size₁ ≤ size₂) × (time₁ ≤ time₂) × (size₁ ≡ size₂ → root₁ ≡ root₂)
 
 -- An honest log: its id, and its pages in order.
 module _ (id : List ℕ) (pages : List (List ℕ)) where

@@ -46,8 +46,8 @@ Demand3 =
     (let d = dispute sha256 page₁ place path₁ (lastSize 0 (heads before)) (lastRoot [] (heads before)) (headsOf (joinedHeads (heads between))) page₂ path₂ (length pair) in
     Settles page₁ page₂ (report d) (pairAfter d pair))
 
--- Two auditors, each with its own list of calls. Where a consistency path is accepted from the head that the first held at its page to the head that the
--- second held at its own, the two pages are settled as one auditor's are.
+-- Two auditors, each with its own list of calls. Where a consistency path is accepted from the head that one held at its page to the head that the other
+-- held at its own, the two pages are settled as one auditor's are, from the page whose head the path starts at. It may start at either's.
 abbrev pub TwoAuditors : Type 0
 TwoAuditors =
     (calls₁ calls₂ : List Call) (before₁ rest₁ before₂ rest₂ : List Entry) (place : ℕ) (page₁ path₁ page₂ path₂ proof pair : List ℕ) →
@@ -57,7 +57,10 @@ TwoAuditors =
     let r = lastRoot [] (heads before₁) in
     let n = lastSize 0 (heads before₂) in
     let s = lastRoot [] (heads before₂) in
-    consistencyVerdict sha256 m n r s proof ≡ 0 →
     130 ≤ length pair →
+    (consistencyVerdict sha256 m n r s proof ≡ 0 →
     (let d = dispute sha256 page₁ place path₁ m r (headsOf (joinedHeads (then n s proof end))) page₂ path₂ (length pair) in
     Settles page₁ page₂ (report d) (pairAfter d pair)))
+    × (consistencyVerdict sha256 n m s r proof ≡ 0 →
+    (let d = dispute sha256 page₂ place path₂ n s (headsOf (joinedHeads (then m r proof end))) page₁ path₁ (length pair) in
+    Settles page₂ page₁ (report d) (pairAfter d pair))))

@@ -47,6 +47,12 @@ headsIn (suc f) s =
 abbrev pub headsOf : List ℕ → Heads
 headsOf s = headsIn (length s) s
 
+-- how many they are
+unfoldable pub howMany : Heads → ℕ
+howMany end = 0
+howMany cut = 0
+howMany (then size root path hs) = suc (howMany hs)
+
 -- the last of them: its size and its root; these where there is none
 unfoldable pub lastSize : ℕ → Heads → ℕ
 lastSize n end = n

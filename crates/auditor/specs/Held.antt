@@ -5,6 +5,7 @@ use Prim.Native.Nat.{ℕ, zero, suc}
 use lib.ListN.{length, take, replicate}
 use Rattle.tree.specs.Build.{over}
 use Rattle.auditor.specs.declared.Record.{Record}
+use Rattle.auditor.specs.declared.Answered.{Answered}
 
 -- empty, or one head: log id, timestamp, size, root
 pub data Held : Type 0 where
@@ -18,6 +19,10 @@ idOf r = take (r .idlen) (r .id)
 -- what every value of the code's record stands for
 unfoldable pub view : Record → Held
 view r = cond (r .held) (head (idOf r) (r .timestamp) (r .size) (r .root)) empty
+
+-- the code's answer of a call that leaves the record as it was
+abbrev pub stayed : ℕ → Record → Answered
+stayed n r = record { number = n; after = r }
 
 -- the code's empty record
 unfoldable pub none : Record

@@ -2,7 +2,10 @@ pub mod Held
 pub mod Offer
 pub mod Page
 pub mod Heads
+pub mod Journal
 pub mod Dispute
 pub mod Calls
 pub mod Demand
+pub mod Keeping
+pub mod Examples
 pub mod Claims

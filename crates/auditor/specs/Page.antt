@@ -9,7 +9,7 @@ use Rattle.hash.specs.Answers.{mostItem}
 use Rattle.tree.specs.Verdict.{inclusionVerdict}
 use Rattle.auditor.specs.declared.Record.{Record}
 use Rattle.auditor.specs.declared.Answered.{Answered}
-use Rattle.auditor.specs.Held.{Held, empty, head, view}
+use Rattle.auditor.specs.Held.{Held, empty, head, view, stayed}
 
 -- 0 where the page is accepted, and else the number of the first refusal
 unfoldable pub pageNumber : (List ℕ → List ℕ) → Held → ℕ → List ℕ → List ℕ → ℕ
@@ -19,4 +19,4 @@ pageNumber H (head id time size root) place page path =
 
 -- what the code answers: the record stays
 unfoldable pub asked : Record → ℕ → List ℕ → List ℕ → Answered
-asked r place page path = record { number = pageNumber sha256 (view r) place page path; after = r }
+asked r place page path = stayed (pageNumber sha256 (view r) place page path) r

@@ -9,6 +9,7 @@ use carry::compare::compare;
 use carry::forward::Carried;
 use carry::forward::carry;
 use hash::Digest;
+use tree::limits::MOST_NODES;
 use tree::verdict::inclusion_verdict;
 ghost use mathlib.Core.Path.{_≡_};
 ghost use mathlib.Core.List.{_∷_};
@@ -31,10 +32,13 @@ pub enum Settled {
     Refused(u32),
 }
 
-fn path_buffer() -> [u8; 1024]
-    ensures { λ r. ⌜ length r ≡ 1024 ⌝ }
+// The bytes of the longest inclusion path.
+const LONGEST_PATH: usize = 32 * MOST_NODES;
+
+fn path_buffer() -> [u8; LONGEST_PATH]
+    ensures { λ r. ⌜ length r ≡ longestPath ⌝ }
 {
-    [0; 1024]
+    [0; LONGEST_PATH]
 }
 
 // Carries the proof at hand by the first head of a buffer, which has `count` bytes.

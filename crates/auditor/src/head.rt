@@ -5,6 +5,7 @@ use super::bytes::root_of;
 use super::bytes::same_log;
 use crate::Answered;
 use crate::Record;
+use crate::unchanged;
 use tree::limits::LARGEST_SIZE;
 use tree::verdict::consistency_verdict;
 ghost use mathlib.Core.Path.{_≡_};
@@ -88,10 +89,7 @@ pub fn offer(r: Record, id: &[u8], timestamp: u64, size: u64, root: &[u8], path:
 {
     let n = number(r, id, timestamp, size, root, path);
     if n != 0 {
-        return Answered {
-            number: n,
-            after: r,
-        };
+        return unchanged(n, r);
     }
     let after = Record {
         held: true,

@@ -1,17 +1,24 @@
 // The auditor of one log: a record that is handed in and handed back by value, offers of heads and calls for pages over it, and the dispute about
 // two pages that were accepted at one place. No function empties a record, and the dispute takes none.
 //
-// head: an offer    page: a call for a page    dispute: two pages at one place    heads: heads joined in a buffer    bytes: a record's bytes
+// head: an offer    page: a call for a page    dispute: two pages at one place    heads: heads joined in a buffer    journal: one head more
+// bytes: a record's bytes
 mod bytes;
 pub mod dispute;
 pub mod head;
 mod heads;
+pub mod journal;
 pub mod page;
 
 ghost use mathlib.Core.Path.{_≡_};
-ghost use Rattle.auditor.specs.Held.{none};
+ghost use Rattle.sha256.specs.Told.{Faithful};
+ghost use Rattle.auditor.specs.Dispute.{settling};
+ghost use Rattle.auditor.specs.Journal.{appending};
+ghost use Rattle.auditor.specs.Held.{none, stayed};
 ghost use Rattle.auditor.specs.Demand.{Demand3, WhateverGiven, TwoAuditors};
-ghost use Rattle.auditor.specs.Claims.{HeldIsAccepted, NeverBack, HonestLog};
+ghost use Rattle.auditor.specs.Keeping.{JournalJoins, LongEnough, AsKept};
+ghost use Rattle.auditor.specs.Examples.{Disputed};
+ghost use Rattle.auditor.specs.Claims.{HeldIsAccepted, RefusedAddNothing, NeverBack, HonestLog};
 use bytes::no_id;
 use bytes::no_root;
 
@@ -45,12 +52,29 @@ pub fn empty() -> Record
     }
 }
 
+// The answer of a call that leaves the record as it was: a refusal, or a page.
+pub(crate) fn unchanged(n: u32, r: Record) -> Answered
+    ensures { λ o. ⌜ o ≡ stayed n r ⌝ }
+{
+    Answered {
+        number: n,
+        after: r,
+    }
+}
+
 // What is proved of every list of calls, as the third demand asks. It does nothing.
 pub fn claims()
     ensures demand3 { λ _. ⌜ Demand3 ⌝ }
+    ensures as_kept { λ _. ⌜ AsKept ⌝ }
+    ensures journal_joins { λ _. ⌜ JournalJoins ⌝ }
+    ensures long_enough { λ _. ⌜ LongEnough ⌝ }
     ensures whatever_given { λ _. ⌜ WhateverGiven ⌝ }
     ensures two_auditors { λ _. ⌜ TwoAuditors ⌝ }
     ensures held_is_accepted { λ _. ⌜ HeldIsAccepted ⌝ }
+    ensures refused_add_nothing { λ _. ⌜ RefusedAddNothing ⌝ }
     ensures never_back { λ _. ⌜ NeverBack ⌝ }
+    ensures disputed { λ _. ⌜ Disputed ⌝ }
     ensures honest_log { λ _. ⌜ HonestLog ⌝ }
+    ensures settling_loses_nothing { λ _. ⌜ Faithful settling ⌝ }
+    ensures appending_loses_nothing { λ _. ⌜ Faithful appending ⌝ }
 {}

@@ -1,6 +1,7 @@
 // Asking for a page.
 use crate::Answered;
 use crate::Record;
+use crate::unchanged;
 use tree::verdict::inclusion_verdict;
 ghost use mathlib.Core.Path.{_≡_};
 ghost use Rattle.hash.specs.Digest.{sha256};
@@ -26,8 +27,5 @@ fn number(r: Record, place: u64, page: &[u8], path: &[u8]) -> u32
 pub fn ask(r: Record, place: u64, page: &[u8], path: &[u8]) -> Answered
     ensures { λ o. ⌜ o ≡ asked r place (now (page .entry)) (now (path .entry)) ⌝ }
 {
-    Answered {
-        number: number(r, place, page, path),
-        after: r,
-    }
+    unchanged(number(r, place, page, path), r)
 }

@@ -61,14 +61,3 @@ pub(crate) fn put_all(out: &mut [u8], at: usize, s: &[u8]) {
         i += 1;
     }
 }
-
-// Writes a number from an index up to another, big-endian.
-pub(crate) fn put_number(out: &mut [u8], from: usize, to: usize, n: u64) {
-    let mut rest = n;
-    let mut i = to;
-    while from < i {
-        i -= 1;
-        put(out, i, (rest % 256) as u8);
-        rest /= 256;
-    }
-}

@@ -1,11 +1,11 @@
 // The archive's log: leaf hashes in the order of filing, heads over them, and paths.
 use crate::bytes::Made;
-use crate::bytes::after;
 use crate::bytes::blank;
 use crate::bytes::first;
 use crate::bytes::put_all;
-use crate::bytes::put_number;
 use crate::bytes::slice;
+use auditor::journal::Appended;
+use auditor::journal::append;
 use hash::Hashed;
 use tree::build::Built;
 use tree::build::consistency_path;
@@ -143,22 +143,22 @@ pub(crate) fn no_path() -> Made {
     }
 }
 
-// A head with its path, as a dispute takes it: the size in 8 bytes, the root, the count of nodes in 2 bytes, the nodes.
-fn put_head(head: Head, path: Made, out: &mut [u8]) {
+// A journal with one head and its path, as a dispute takes it.
+pub(crate) fn joined(head: Head, path: Made) -> Made {
     let root = head.root;
     let nodes = path.bytes;
-    put_number(out, 0, 8, head.size);
-    put_all(out, 8, &root);
-    put_number(out, 40, 42, (path.len / 32) as u64);
-    put_all(out, 42, slice(&nodes, path.len));
-}
-
-pub(crate) fn joined(head: Head, path: Made) -> Made {
     let mut bytes = blank();
-    put_head(head, path, &mut bytes);
-    Made {
-        number: first(head.number, path.number),
-        len: after(42, path.len),
-        bytes,
+    let answer = append(&mut bytes, 0, head.size, &root, slice(&nodes, path.len));
+    match answer {
+        Appended::Used(len) => Made {
+            number: first(head.number, path.number),
+            len,
+            bytes,
+        },
+        Appended::Refused(number) => Made {
+            number,
+            len: 0,
+            bytes,
+        },
     }
 }

@@ -22,6 +22,7 @@ pub use reader::Item;
 pub use reader::read;
 pub use writer::Numbers;
 pub use writer::Written;
+pub use writer::be8;
 pub use writer::write;
 
 // What is proved of reader, writer, copied path and choice beside their own promises, as the second demand asks. It does nothing.

@@ -245,7 +245,8 @@ pub(crate) fn copy_at(out: &mut [u8], at: usize, src: &[u8])
     }
 }
 
-fn be8(n: u64) -> [u8; 8]
+// A number in 8 bytes, big-endian.
+pub fn be8(n: u64) -> [u8; 8]
     ensures { λ r. ⌜ r ≡ be 8 n ⌝ }
 {
     let a = n / 72057594037927936;

@@ -16,6 +16,7 @@ pub const LAYER: Layer = Layer {
         Entry { name: "offer", answer: |words| offer(digest, words), random: random_offer },
         Entry { name: "page", answer: |words| page(digest, words), random: random_page },
         Entry { name: "dispute", answer: |words| dispute(digest, words), random: random_dispute },
+        Entry { name: "append", answer: append, random: random_append },
     ],
     lists: Some(random_list),
     cases,
@@ -110,6 +111,13 @@ fn dispute(h: HashFunction, words: &[Word]) -> Option<Vec<Word>> {
     Some(vec![number(refusal), number(outcome), bytes(&pair)])
 }
 
+fn append(words: &[Word]) -> Option<Vec<Word>> {
+    let [journal, used, size, root, path] = words else { return None };
+    let mut journal = journal.as_bytes()?.to_vec();
+    let after = auditor::append(&mut journal, used.as_number()?, size.as_number()?, root.as_bytes()?, path.as_bytes()?);
+    Some(vec![number(after.err().unwrap_or(0)), number(after.unwrap_or(0)), bytes(&journal)])
+}
+
 // Requests.
 
 fn ask_offer(record: &Stored, one: &Offer) -> Asked {
@@ -139,8 +147,61 @@ fn ask_dispute(one: &Dispute, pair: Word) -> Asked {
     ("dispute", words)
 }
 
+fn ask_append(journal: &[u8], used: u64, head: &Offer) -> Asked {
+    ("append", vec![short(journal), number(used), number(head.size), short(&head.root), short(&head.path)])
+}
+
+/// The accepted heads appended to a journal, one after the other, some of them
+/// damaged too; the journal may be too short for the last ones.
+fn ask_journal(calls: &[Call], accepted: &[bool], random: &mut Random) -> Vec<Asked> {
+    let heads = || {
+        calls.iter().zip(accepted).filter_map(|(call, accepted)| match call {
+            Call::Offer(head) if *accepted => Some(head),
+            _ => None,
+        })
+    };
+    let whole: usize = heads().map(|head| 42 + head.path.len()).sum();
+    let start = random.below(3) as usize;
+    let room = start + whole + random.below(4) as usize;
+    let mut journal = vec![random.byte(); if random.one_in(3) { random.below(room as u64 + 1) as usize } else { room }];
+    let mut used = start as u64;
+    let mut all = Vec::new();
+    for head in heads() {
+        if random.one_in(4) {
+            all.push(damaged_append(&journal, used, head.clone(), random));
+        }
+        all.push(ask_append(&journal, used, head));
+        match auditor::append(&mut journal, used, head.size, &head.root, &head.path) {
+            Ok(after) => used = after,
+            Err(_) => break,
+        }
+    }
+    all
+}
+
+fn damaged_append(journal: &[u8], mut used: u64, mut head: Offer, random: &mut Random) -> Asked {
+    let mut room = journal.len();
+    let need = 42 + head.path.len();
+    match random.below(12) {
+        0 => drop(head.root.pop()),
+        1 => head.root.push(random.byte()),
+        2 => head.root.clear(),
+        3 => head.path.push(random.byte()),
+        4 => (head.root, head.path) = (vec![0; 31], vec![0; 31]),
+        5 => room = room.min(used as usize + need).saturating_sub(1),
+        6 => room = random.below(room as u64 + 1) as usize,
+        7 => used = room as u64 + random.below(3),
+        8 => used = *random.pick(&[u64::MAX, u64::MAX - 41, u64::MAX - need as u64, 1 << 63]),
+        9 => used = (room as u64).saturating_sub(need as u64) + random.below(2),
+        10 => head.size = random.draw() >> random.below(64),
+        _ => head.path.extend(random.bytes(32)),
+    }
+    ask_append(&journal[..room], used, &head)
+}
+
 /// A list of calls, each given the record that the call before returned; then the
-/// dispute of every two accepted pages at one place, some of them damaged.
+/// accepted heads appended to a journal, and the dispute of every two accepted
+/// pages at one place, some of them damaged.
 fn ask_list(h: HashFunction, calls: &[Call], random: &mut Random) -> Vec<Asked> {
     let mut record = Stored::EMPTY;
     let (mut all, mut accepted) = (Vec::new(), Vec::new());
@@ -159,6 +220,7 @@ fn ask_list(h: HashFunction, calls: &[Call], random: &mut Random) -> Vec<Asked> 
         };
         accepted.push(refusal == 0);
     }
+    all.extend(ask_journal(calls, &accepted, random));
     for one in disputes(calls, &accepted) {
         let room = *random.pick(&[130, 130, 131, 150]);
         all.push(ask_dispute(&one, repeated(room, random.byte())));
@@ -537,6 +599,22 @@ fn rules(every_pair: bool) -> Vec<(u64, Asked)> {
         all.push((7, ask_page(&record, &PageCall { path: [&call.path[..], &[0; 32]].concat(), ..call })));
     }
 
+    // Journals. A head of two nodes has 106 bytes.
+    let journal: Vec<u8> = (0..=255).collect();
+    let head = any(1 << 40, [[8; 32], [9; 32]].concat());
+    for (room, used, refusal) in
+        [(106, 0, 0), (256, 0, 0), (256, 150, 0), (107, 1, 0), (105, 0, 9), (256, 151, 9), (0, 0, 9), (256, 256, 9), (256, 257, 9), (106, u64::MAX, 9)]
+    {
+        all.push((refusal, ask_append(&journal[..room], used, &head)));
+        all.push((10, ask_append(&journal[..room], used, &Offer { path: vec![8; 63], ..head.clone() })));
+        for length in [0, 31, 33] {
+            all.push((5, ask_append(&journal[..room], used, &Offer { root: vec![6; length], path: vec![8; 63], ..head.clone() })));
+        }
+    }
+    for size in [0, 1, 255, 256, u64::MAX] {
+        all.push((0, ask_append(&journal[..50], 5, &any(size, vec![]))));
+    }
+
     // Disputes.
     for (good, faults) in [
         (Open::new(&log, 0, &[7]), faults_without_heads()),
@@ -612,6 +690,10 @@ fn cases(requests: &mut Requests) {
         "dispute x 0 x 1 32*01 x x x 130",
         "dispute x 0 x 1 32*01 x x x 130*00 x",
         "dispute x x x 1 32*01 x x x 130*00",
+        "append 50*00 0 1 32*01",
+        "append 50*00 0 1 32*01 x x",
+        "append 50*00 x 1 32*01 x",
+        "append 50 0 1 32*01 x",
     ] {
         requests.line(line.as_bytes());
     }
@@ -707,6 +789,10 @@ fn random_dispute(random: &mut Random) -> Vec<Word> {
     random_of("dispute", random)
 }
 
+fn random_append(random: &mut Random) -> Vec<Word> {
+    random_of("append", random)
+}
+
 #[cfg(test)]
 mod tests {
     use super::*;
@@ -727,6 +813,7 @@ mod tests {
         match asked.0 {
             "offer" => offer(h, &words),
             "page" => page(h, &words),
+            "append" => append(&words),
             _ => dispute(h, &words),
         }
         .expect("a request")
@@ -744,6 +831,12 @@ mod tests {
                     let padded: Vec<u8> = id.iter().copied().chain([0; LONGEST_ID]).take(LONGEST_ID).collect();
                     let after = [number(1), bytes(&padded), number(id.len() as u64), words[7].clone(), words[8].clone(), words[9].clone()];
                     assert_eq!(answer[1..], after);
+                }
+                "append" => {
+                    let used = words[1].as_number().unwrap();
+                    let more = 42 + words[4].as_bytes().unwrap().len() as u64;
+                    assert_eq!(answer[1], number(if *refusal == 0 { used + more } else { 0 }));
+                    assert_eq!(answer[2] == words[0], *refusal != 0);
                 }
                 "dispute" => {
                     assert_eq!(answer[1], number((*refusal == 0) as u64));
@@ -786,7 +879,8 @@ mod tests {
         let offers = [0, 5, 6, 7, 8, 10, 11, 12, 13].map(|refusal| ("offer", refusal, 0));
         let pages = [0, 6, 7, 8, 10, 14].map(|refusal| ("page", refusal, 0));
         let refused = [2, 5, 6, 7, 8, 9, 10].map(|refusal| ("dispute", refusal, 0));
-        let mut expected: Vec<_> = offers.into_iter().chain(pages).chain(refused).chain([("dispute", 0, 1)]).collect();
+        let appends = [0, 5, 9, 10].map(|refusal| ("append", refusal, 0));
+        let mut expected: Vec<_> = offers.into_iter().chain(pages).chain(refused).chain(appends).chain([("dispute", 0, 1)]).collect();
         expected.sort();
         assert_eq!(counts.keys().copied().collect::<Vec<_>>(), expected);
         assert!(counts.values().all(|count| *count >= 10), "{counts:?}");

@@ -20,7 +20,7 @@ use Rattle.auditor.proofs.dispute.work.Tie as tie
 
 abbrev Inv-loop : tie.InvT-loop
 Inv-loop place page1 path1 size root heads page2 path2 pair₀ leaf1 leaf2 path₀ len₀ held₀ m₀ at₀ pair path len held m at =
-    (at ≤ length heads) × (len ≤ 1024) × (length path ≡ 1024) × (length held ≡ 32) × (length pair ≡ length pair₀) × (pair ≡ pair₀)
+    (at ≤ length heads) × (len ≤ longestPath) × (length path ≡ longestPath) × (length held ≡ 32) × (length pair ≡ length pair₀) × (pair ≡ pair₀)
     × (Left sha256 place page1 page2 path2 heads (length pair₀) at m held (take len path) ≡ Left sha256 place page1 page2 path2 heads (length pair₀) 0 size root path1)
 
 abbrev μ-loop : tie.MeasureT-loop
@@ -101,7 +101,7 @@ part-root-of-end c =
     let w = head-whole _ _ (c .before .before .before .before .before .before .before .before .before .before .before .before .before .before .before .head-bytes .ensures) (c .before .before .before .before .before .before .before .before .before .before .before .before .before .before .if1 .left) in
     omega (arith, w .0, w .1)
 
-within : (n : ℕ) (o : List ℕ) → n ≤ length o → length o ≡ 1024 → n ≤ 1024
+within : (n : ℕ) (o : List ℕ) → n ≤ length o → length o ≡ longestPath → n ≤ longestPath
 within n o h e = omega arith
 
 -- the next place is within the buffer

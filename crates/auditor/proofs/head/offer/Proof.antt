@@ -10,8 +10,8 @@ use Rattle.auditor.proofs.head.offer.Tie as tie
 
 returns : tie.Need-returns
 returns c =
-    let a = c .before .before .before .before .before .args in
-    tells-refused (a .r) (now (a .id)) (a .timestamp) (a .size) (now (a .root)) (now (a .path)) _ (c .before .number .ensures) (c .if1 .taken)
+    let a = c .before .before .before .before .before .before .args in
+    c .unchanged .ensures ∙ tells-refused (a .r) (now (a .id)) (a .timestamp) (a .size) (now (a .root)) (now (a .path)) _ (c .before .before .number .ensures) (c .before .if1 .taken)
 
 id-of-requires : tie.Need-id-of-requires
 id-of-requires c κs =
@@ -29,4 +29,4 @@ returns-2 c =
     tells-accepted (a .r) (now (a .id)) (a .timestamp) (a .size) (now (a .root)) (now (a .path)) _ (c .before .before .before .number .ensures) _ _ _ (c .before .before .if1 .left) (c .before .id-of .ensures) (c .root-of .ensures) refl
 
 pub offer-spec : {M : Type 1} → statement M
-offer-spec = tie.close (tie.spec (λ c κs. search needs) returns id-of-requires root-of-requires returns-2)
+offer-spec = tie.close (tie.spec (λ c κs. search needs) (λ c κs. search needs) returns id-of-requires root-of-requires returns-2)
