@@ -9,6 +9,7 @@ pub mod random;
 pub mod requests;
 pub mod servers;
 pub mod sha256;
+pub mod talk;
 pub mod tree;
 pub mod vectors;
 pub mod verdict;

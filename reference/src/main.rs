@@ -1,15 +1,17 @@
 //! Commands:
-//!   cases DIR [LAYER ..]   write DIR/LAYER/stdin and DIR/LAYER/stdout, the committed files, of these layers or of all
+//!   cases DIR              write DIR/stdin and DIR/stdout, the committed files
 //!   run LAYER SEED COUNT   write random requests to standard output
 //!   full LAYER             write the large run's requests to standard output
-//!   answer [LAYER]         read requests from standard input, write the answers
+//!   answer                 read requests from standard input, write the answers
+//!   talk PROGRAM           talk to a program that answers requests: line by line, with lines too long and cut off
 
-use reference::requests::{self, Layer, Requests, LAYERS};
+use reference::requests::{self, Requests, LAYERS};
+use reference::talk;
 use std::io::{self, BufRead, BufWriter, Write};
 use std::path::Path;
 use std::process::ExitCode;
 
-const USAGE: &str = "usage: reference cases DIR [LAYER ..] | run LAYER SEED COUNT | full LAYER | answer [LAYER]";
+const USAGE: &str = "usage: reference cases DIR | run LAYER SEED COUNT | full LAYER | answer | talk PROGRAM";
 
 fn main() -> ExitCode {
     let arguments: Vec<String> = std::env::args().skip(1).collect();
@@ -32,11 +34,7 @@ fn main() -> ExitCode {
 fn run(arguments: &[&str]) -> Option<io::Result<()>> {
     let mut out = BufWriter::new(io::stdout().lock());
     match arguments {
-        ["cases", dir] => Some(write_cases(LAYERS, Path::new(dir))),
-        ["cases", dir, layers @ ..] => {
-            let layers: Option<Vec<&Layer>> = layers.iter().map(|layer| requests::layer(layer)).collect();
-            Some(write_cases(&layers?, Path::new(dir)))
-        }
+        ["cases", dir] => Some(write_cases(Path::new(dir))),
         ["run", layer, seed, count] => {
             requests::random_run(requests::layer(layer)?, seed.parse().ok()?, count.parse().ok()?, &mut out);
             Some(out.flush())
@@ -45,32 +43,24 @@ fn run(arguments: &[&str]) -> Option<io::Result<()>> {
             (requests::layer(layer)?.full)(&mut Requests::new(&mut out));
             Some(out.flush())
         }
-        ["answer"] => Some(write_answers(LAYERS, &mut io::stdin().lock(), &mut out)),
-        ["answer", layer] => Some(write_answers(&[requests::layer(layer)?], &mut io::stdin().lock(), &mut out)),
+        ["answer"] => Some(write_answers(&mut io::stdin().lock(), &mut out)),
+        ["talk", program] => Some(talk::talk(program)),
         _ => None,
     }
 }
 
-fn write_cases(layers: &[&Layer], dir: &Path) -> io::Result<()> {
-    for layer in layers {
-        let (mut questions, mut answers) = (Vec::new(), Vec::new());
-        (layer.cases)(&mut Requests::new(&mut questions));
-        write_answers(&[layer], &mut &questions[..], &mut answers)?;
-        let dir = dir.join(layer.name);
-        std::fs::create_dir_all(&dir)?;
-        std::fs::write(dir.join("stdin"), questions)?;
-        std::fs::write(dir.join("stdout"), answers)?;
-    }
-    Ok(())
+fn write_cases(dir: &Path) -> io::Result<()> {
+    let (questions, mut answers) = (requests::committed(), Vec::new());
+    write_answers(&mut &questions[..], &mut answers)?;
+    std::fs::create_dir_all(dir)?;
+    std::fs::write(dir.join("stdin"), questions)?;
+    std::fs::write(dir.join("stdout"), answers)
 }
 
-fn write_answers(layers: &[&Layer], input: &mut dyn BufRead, out: &mut dyn Write) -> io::Result<()> {
+fn write_answers(input: &mut dyn BufRead, out: &mut dyn Write) -> io::Result<()> {
     let mut line = Vec::new();
     while input.read_until(b'\n', &mut line)? > 0 {
-        if line.last() == Some(&b'\n') {
-            line.pop();
-        }
-        out.write_all(&requests::answer(layers, &line))?;
+        out.write_all(&requests::answer_to(&line))?;
         line.clear();
     }
     out.flush()

@@ -2,7 +2,7 @@
 
 use crate::layers;
 use crate::random::Random;
-use crate::words::{read_line, write_line, Word};
+use crate::words::{read_line, write_line, Word, LONGEST_LINE};
 use std::collections::VecDeque;
 use std::io::Write;
 
@@ -55,6 +55,24 @@ impl Requests<'_> {
     pub fn line(&mut self, line: &[u8]) {
         self.out.write_all(line).expect("cannot write");
         self.out.write_all(b"\n").expect("cannot write");
+    }
+}
+
+/// The committed requests, of all layers.
+pub fn committed() -> Vec<u8> {
+    let mut out = Vec::new();
+    for layer in LAYERS {
+        (layer.cases)(&mut Requests::new(&mut out));
+    }
+    out
+}
+
+/// The answer to one line as it was read: with its line feed, unless the input
+/// ended in it.
+pub fn answer_to(line: &[u8]) -> Vec<u8> {
+    match line.strip_suffix(b"\n") {
+        Some(line) if line.len() <= LONGEST_LINE => answer(LAYERS, line),
+        _ => b"?\n".to_vec(),
     }
 }
 
@@ -177,12 +195,23 @@ mod tests {
     fn committed_files_stay_small() {
         for layer in LAYERS {
             let requests = written(layer.cases);
-            let answers = answers(&[layer], &requests);
-            let (asked, answered) = (requests.len(), answers.len());
+            let (asked, answered) = (requests.len(), answers(LAYERS, &requests).len());
             println!("{}: {} requests, {asked} and {answered} bytes", layer.name, requests.iter().filter(|c| **c == b'\n').count());
-            assert!(asked + answered < 1_000_000, "{}: {asked} and {answered}", layer.name);
-            assert_eq!(requests, written(layer.cases));
         }
+        let requests = committed();
+        let (asked, answered) = (requests.len(), answers(LAYERS, &requests).len());
+        assert!(asked < 1_000_000 && answered < 1_000_000, "{asked} and {answered}");
+        assert_eq!(requests, committed());
+    }
+
+    #[test]
+    fn lines_too_long_or_cut_off_are_no_request() {
+        let longest = [b"digest_into x".to_vec(), vec![b'0'; LONGEST_LINE - 15], b" x\n".to_vec()].concat();
+        assert_eq!(answer_to(&longest), b"9 x\n");
+        let longer = [b"digest x".to_vec(), vec![b'0'; LONGEST_LINE - 7], b"\n".to_vec()].concat();
+        assert_eq!(answer_to(&longer), b"?\n");
+        assert_eq!(answer_to(b"newer x x\n"), b"x\n");
+        assert_eq!(answer_to(b"newer x x"), b"?\n");
     }
 
     #[test]
