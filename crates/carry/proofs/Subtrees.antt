@@ -52,7 +52,7 @@ module _ (m x : ℕ) (more : 1 < m) (lop : m - split m < split m) where
   unfolding aboveOf
   above-here h =
       let l = size-left m more in
-      rw (shape-fork m more, ne-eqb (size (shape (split m))) (size (shape (m - split m))) sides, lt-ltb x (size (shape (split m))) (omega arith))
+      rw (shape-fork m more, ne-eqb (size (shape (split m))) (size (shape (m - split m))) sides, lt-ltb x (size (shape (split m))) (omega arith)) refl
 
   pub above-beyond : split m ≤ x → aboveOf (shape m) x ≡ suc (aboveOf (shape (m - split m)) (x - split m))
   unfolding aboveOf
@@ -80,7 +80,7 @@ module _ (m n : ℕ) (b : Bool) (f : List ℕ) (q : List (List ℕ)) where
     unfolding subtreesOf
     subtrees-low l =
         let z = size-left n several in
-        rw (shape-fork n several, ne-eqb m (size (shape (split n)) + size (shape (n - split n))) part, le-leb m (size (shape (split n))) (omega arith))
+        rw (shape-fork n several, ne-eqb m (size (shape (split n)) + size (shape (n - split n))) part, le-leb m (size (shape (split n))) (omega arith)) refl
 
     pub subtrees-high : split n < m → subtreesOf (shape n) m b f q ≡ last q ∷ subtreesOf (shape (n - split n)) (m - split n) false f (init q)
     unfolding subtreesOf
