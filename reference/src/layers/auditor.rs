@@ -613,9 +613,18 @@ fn rules(every_pair: bool) -> Vec<(u64, Asked)> {
     // Journals. A head of two nodes has 106 bytes.
     let journal: Vec<u8> = (0..=255).collect();
     let head = any(1 << 40, [[8; 32], [9; 32]].concat());
-    for (room, used, refusal) in
-        [(106, 0, 0), (256, 0, 0), (256, 150, 0), (107, 1, 0), (105, 0, 9), (256, 151, 9), (0, 0, 9), (256, 256, 9), (256, 257, 9), (106, u64::MAX, 9)]
-    {
+    for (room, used, refusal) in [
+        (106, 0, 0),
+        (256, 0, 0),
+        (256, 150, 0),
+        (107, 1, 0),
+        (105, 0, 9),
+        (256, 151, 9),
+        (0, 0, 9),
+        (256, 256, 9),
+        (256, 257, 9),
+        (106, u64::MAX, 9),
+    ] {
         all.push((refusal, ask_append(&journal[..room], used, &head)));
         all.push((10, ask_append(&journal[..room], used, &Offer { path: vec![8; 63], ..head.clone() })));
         for length in [0, 31, 33] {
