@@ -9,6 +9,7 @@ use crate::request::number;
 use auditor::Answered;
 use auditor::Record;
 use auditor::dispute::Settled;
+use auditor::journal::Appended;
 
 // 127 bytes as an array; of another length, zeros.
 fn id_from(s: &[u8]) -> [u8; 127] {
@@ -84,6 +85,23 @@ fn dispute(r: Request, mem: &[u8], pair: &mut [u8]) -> Answer {
     ))
 }
 
+fn appended(a: Appended) -> Answer {
+    match a {
+        Appended::Used(count) => words(0, count as u64, 0, 0, 0, 0),
+        Appended::Refused(number) => words(number as u64, 0, 0, 0, 0, 0),
+    }
+}
+
+fn append(r: Request, mem: &[u8], journal: &mut [u8]) -> Answer {
+    appended(auditor::journal::append(
+        journal,
+        number(r, 1) as usize,
+        number(r, 2),
+        field(r, 3, mem),
+        field(r, 4, mem),
+    ))
+}
+
 pub(crate) fn answer(
     entry: u8,
     r: Request,
@@ -95,6 +113,7 @@ pub(crate) fn answer(
     match entry {
         b'a' => answered(offer(r, mem, given), lent, pair),
         b'b' => answered(page(r, mem, given), lent, pair),
-        _ => dispute(r, mem, pair),
+        b'c' => dispute(r, mem, pair),
+        _ => append(r, mem, lent),
     }
 }

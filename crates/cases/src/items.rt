@@ -208,10 +208,20 @@ fn newer(r: Request, mem: &[u8], lent: &mut [u8]) -> Answer {
     words(n, 0, 0, 0, 0, 0)
 }
 
+fn path_into(r: Request, mem: &[u8], lent: &mut [u8]) -> Answer {
+    let path = Part {
+        start: number(r, 1) as usize,
+        len: number(r, 2) as usize,
+        value: 0,
+    };
+    written(item::path_into(field(r, 0, mem), path, lent))
+}
+
 pub(crate) fn answer(entry: u8, r: Request, mem: &[u8], lent: &mut [u8]) -> Answer {
     match entry {
         b'a' => read(item::read(field(r, 0, mem))),
         b'b' => write(r, mem, lent),
-        _ => newer(r, mem, lent),
+        b'c' => newer(r, mem, lent),
+        _ => path_into(r, mem, lent),
     }
 }

@@ -13,7 +13,7 @@ use crate::trees;
 
 // A line for each entry: its name; a letter for its crate and one for the entry; a letter for each argument (request.rt); a letter for each word of its
 // answer (answers.rt).
-pub(crate) fn rows() -> [u8; 398] {
+pub(crate) fn rows() -> [u8; 441] {
     *b"digest ha b nc\n\
 leaf hb b nc\n\
 node hc hh c\n\
@@ -30,9 +30,11 @@ compare cb nnbbbbbp nnp\n\
 read ia b nnnnnnnnnnnn\n\
 write ib snbbbbbnnnbbnsbl nnnl\n\
 newer ic bb c\n\
+path_into id bnnl nnnl\n\
 offer aa finnnrbnnbb nnlnnnp\n\
 page ab finnnrnbb nnlnnnp\n\
-dispute ac bnbnbbbbp nnp\n"
+dispute ac bnbnbbbbp nnp\n\
+append ad lnnbb nnl\n"
 }
 
 // The line of the entry that has a name; empty where none has.
