@@ -4,7 +4,7 @@ use mathlib.Core.Path.{_≡_, refl, sym, ap, _∙_}
 use mathlib.Core.Bool.{Bool, true, false, cond, not, _||_}
 use mathlib.Core.Logic.{⊎-elim}
 use mathlib.Core.List.{List, [], _∷_, _++_, append-assoc, append-nil}
-use Prim.Native.Nat.{ℕ, zero, suc, _+_, _-_, _*_, _/_, _%_, _≤_, _<_}
+use Prim.Native.Nat.{ℕ, zero, suc, _+_, _-_, _*_, _/_, _%_, _≤_}
 use native.Mathlib.Omega.{arith}
 use lib.Dec.{ltb, eqb}
 use lib.ListN.{length, take, drop, length-append}
@@ -22,14 +22,16 @@ use Rattle.item.specs.Steps.{put}
 use Rattle.item.proofs.Digits.{be-length}
 use Rattle.item.proofs.Putting.{put-length}
 use Rattle.auditor.specs.declared.Record.{Record}
-use Rattle.auditor.specs.Held.{Held, empty, head, idOf, view, none}
+use Rattle.auditor.specs.Held.{Held, empty, head, view, none}
 use Rattle.auditor.specs.Offer.{outside, first, byRecord, offerNumber, keptRecord, offered}
 use Rattle.auditor.specs.Page.{pageNumber, asked}
-use Rattle.auditor.specs.Heads.{Heads, end, then, lastSize, lastRoot, joinedHeads, howMany}
+use Rattle.auditor.specs.Heads.{Heads, end, then, lastSize, lastRoot, joinedHeads, headsOf, howMany}
 use Rattle.auditor.specs.Journal.{mostCount, append, report, journalAfter}
 use Rattle.auditor.specs.Calls.{Call, offer, ask, Entry, answered, called, answers, final, heads}
 use Rattle.auditor.specs.Claims.{lastHead}
-use Rattle.auditor.specs.Keeping.{Journal, kept, lost, noted, onward, journaled, Joins, JournalJoins, longestHead, LongEnough, AsKept}
+use Rattle.auditor.specs.Dispute.{dispute, report as told, pairAfter}
+use Rattle.auditor.specs.Demand.{Settles}
+use Rattle.auditor.specs.Keeping.{kept, lost, noted, onward, journaled, Joins, JournalJoins, longestHead, LongEnough, AsKept}
 use Rattle.auditor.proofs.Offering.{passed, taken, view-held, view-empty}
 use Rattle.auditor.proofs.Holding.{held-is-accepted}
 use Rattle.auditor.proofs.Journaling.{one-head, head-length, fits}
@@ -197,6 +199,16 @@ agreed r place page path held m s v a e = go (r .held) refl
         fourteen : _≡_ {A = ℕ} 14 0 → ⊥
         fourteen z = omega arith
 
+-- a dispute over this size, this root and these joined heads settles two pages
+abbrev By : List ℕ → ℕ → List ℕ → List ℕ → List ℕ → List ℕ → ℕ → List ℕ → List ℕ → Type 0
+By page₁ place path₁ page₂ path₂ pair size root joined =
+    (let d = dispute sha256 page₁ place path₁ size root (headsOf joined) page₂ path₂ (length pair) in
+    Settles page₁ page₂ (told d) (pairAfter d pair))
+
+settles-by : (page₁ : List ℕ) (place : ℕ) (path₁ page₂ path₂ pair : List ℕ) (m n : ℕ) (r s h k : List ℕ) → m ≡ n → r ≡ s → h ≡ k →
+    By page₁ place path₁ page₂ path₂ pair n s k → By page₁ place path₁ page₂ path₂ pair m r h
+settles-by page₁ place path₁ page₂ path₂ pair m n r s h k e f g w = rw (e, f, g) w
+
 pub as-kept : AsKept
 unfolding answers called asked Agrees
 as-kept earlier between place page₁ path₁ page₂ path₂ lent bytes used pair a j b enough =
@@ -210,4 +222,5 @@ as-kept earlier between place page₁ path₁ page₂ path₂ lent bytes used pa
     answers-append none earlier (ask place page₁ path₁ ∷ (between ++ (ask place page₂ path₂ ∷ [])))
     ∙ rw (a, answers-append held between (ask place page₂ path₂ ∷ []), b) in
     let g = agreed held place page₁ path₁ (lastHead empty before) (lastSize 0 (heads before)) (lastRoot [] (heads before)) (held-is-accepted earlier) (agrees before empty 0 [] tt) a in
-    rw (g .0, g .1, journal-joins since lent bytes 0 used j .heads-joined) (demand3 calls before since [] place page₁ path₁ page₂ path₂ pair e enough)
+    settles-by page₁ place path₁ page₂ path₂ pair (held .size) (lastSize 0 (heads before)) (held .root) (lastRoot [] (heads before)) (take used bytes) (joinedHeads (heads since))
+    (g .0) (g .1) (journal-joins since lent bytes 0 used j .heads-joined) (demand3 calls before since [] place page₁ path₁ page₂ path₂ pair e enough)
