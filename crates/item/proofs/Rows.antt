@@ -1,7 +1,7 @@
 -- The table's fields: each fits the code's numbers, and stands in a layout where its name stands. Assumes nothing.
 use mathlib.Core.Path.{_≡_, refl, ap, sym, _∙_}
 use mathlib.Core.List.{List, [], _∷_, map}
-use Prim.Native.Nat.{ℕ, zero, suc, _≤_, _<_}
+use Prim.Native.Nat.{ℕ, zero, suc, _<_}
 use native.Mathlib.Omega.{arith}
 use lib.ListN.{length, getD, take}
 use lib.Seq.{getD-take}
@@ -10,7 +10,6 @@ use Rattle.item.specs.declared.layout.Field.the-variants.{Uint}
 use Rattle.item.specs.declared.table.Name.{Name}
 use Rattle.item.specs.declared.table.Name.the-variants.{Timestamp, Size, SizeOne, SizeTwo, Place, Agreement, PageNumber, LogId, IssuerKeyHash, Certificate, RootHash, Extensions, Signature, Path, Body}
 use Rattle.item.specs.declared.table.Case.{Case}
-use Rattle.item.specs.declared.table.Case.the-variants.{Entry, Receipt, SignedHead, Consistency, Inclusion, Page}
 use Rattle.item.specs.Table.{fieldOf, namesOf, layoutOf}
 use Rattle.item.specs.declared.writer.Numbers.{Numbers}
 use Rattle.item.specs.Write.{Value}
@@ -53,14 +52,6 @@ name-at c names i e h = sym (getD-take (length (namesOf c)) names i Timestamp h)
 
 pub layout-at : (c : Case) (names : List Name) (i : ℕ) → take (length (namesOf c)) names ≡ namesOf c → i < length (namesOf c) → fieldOf (getD names i Timestamp) ≡ getD (layoutOf c) i (Uint 0)
 layout-at c names i e h = ap fieldOf (name-at c names i e h) ∙ field-at (namesOf c) i h
-
-pub few : (c : Case) → length (namesOf c) ≤ 6
-few Entry = omega arith
-few Receipt = omega arith
-few SignedHead = omega arith
-few Consistency = omega arith
-few Inclusion = omega arith
-few Page = omega arith
 
 -- what the writer is given by a name, from its two halves
 held-is : (n : Numbers) (t : Vectors) (x : Name) → valueOf n t x ≡ held (fieldOf x) (numberOf n x) (bytesOf t x)

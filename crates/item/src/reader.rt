@@ -11,6 +11,7 @@ use crate::table::count_of;
 use crate::table::field_of;
 use crate::table::names_of;
 ghost use mathlib.Core.Path.{_≡_};
+ghost use mathlib.Core.List.{[], _∷_};
 ghost use Prim.Native.Nat.{_≤_};
 ghost use lib.ListN.{length, take};
 ghost use Rattle.item.specs.Answer.{then};
@@ -70,57 +71,73 @@ pub enum Item {
     },
 }
 
+// The first parts, as many as a case has fields, by their names.
+fn in_order(case: Case, kind: u16, a: Part, b: Part, c: Part, d: Part, e: Part, f: Part) -> Item
+    ensures { λ r. ⌜ reading r ≡ item case kind (take (length (namesOf case)) (a ∷ (b ∷ (c ∷ (d ∷ (e ∷ (f ∷ []))))))) ⌝ }
+{
+    match case {
+        Case::Entry => Item::Entry {
+            kind,
+            timestamp: a,
+            issuer_key_hash: b,
+            certificate: c,
+            extensions: d,
+        },
+        Case::Receipt => Item::Receipt {
+            kind,
+            log_id: a,
+            timestamp: b,
+            extensions: c,
+            signature: d,
+        },
+        Case::SignedHead => Item::SignedHead {
+            kind,
+            log_id: a,
+            timestamp: b,
+            size: c,
+            root_hash: d,
+            extensions: e,
+            signature: f,
+        },
+        Case::Consistency => Item::Consistency {
+            kind,
+            log_id: a,
+            size_one: b,
+            size_two: c,
+            path: d,
+        },
+        Case::Inclusion => Item::Inclusion {
+            kind,
+            log_id: a,
+            size: b,
+            place: c,
+            path: d,
+        },
+        Case::Page => Item::Page {
+            kind,
+            timestamp: a,
+            agreement: b,
+            page: c,
+            body: d,
+        },
+    }
+}
+
 // The parts of a case by their names.
 fn named(case: Case, kind: u16, parts: [Part; 6]) -> Item
     requires { ⌜ length parts ≡ 6 ⌝ }
     ensures { λ r. ⌜ reading r ≡ item case kind (take (length (namesOf case)) parts) ⌝ }
 {
-    match case {
-        Case::Entry => Item::Entry {
-            kind,
-            timestamp: parts[0],
-            issuer_key_hash: parts[1],
-            certificate: parts[2],
-            extensions: parts[3],
-        },
-        Case::Receipt => Item::Receipt {
-            kind,
-            log_id: parts[0],
-            timestamp: parts[1],
-            extensions: parts[2],
-            signature: parts[3],
-        },
-        Case::SignedHead => Item::SignedHead {
-            kind,
-            log_id: parts[0],
-            timestamp: parts[1],
-            size: parts[2],
-            root_hash: parts[3],
-            extensions: parts[4],
-            signature: parts[5],
-        },
-        Case::Consistency => Item::Consistency {
-            kind,
-            log_id: parts[0],
-            size_one: parts[1],
-            size_two: parts[2],
-            path: parts[3],
-        },
-        Case::Inclusion => Item::Inclusion {
-            kind,
-            log_id: parts[0],
-            size: parts[1],
-            place: parts[2],
-            path: parts[3],
-        },
-        Case::Page => Item::Page {
-            kind,
-            timestamp: parts[0],
-            agreement: parts[1],
-            page: parts[2],
-            body: parts[3],
-        },
-    }
+    in_order(
+        case,
+        kind,
+        parts[0],
+        parts[1],
+        parts[2],
+        parts[3],
+        parts[4],
+        parts[5],
+    )
 }
 
 // The fields of a case, after the two bytes of the type, and nothing after them.
