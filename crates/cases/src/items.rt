@@ -122,7 +122,7 @@ fn statement(found: Item) -> Answer {
     }
 }
 
-fn read(found: Item) -> Answer {
+fn any(found: Item) -> Answer {
     match found {
         Item::Entry {
             kind,
@@ -168,6 +168,10 @@ fn refused(number: u32, place: usize) -> Answer {
     }
 }
 
+fn read(r: Request, mem: &[u8]) -> Answer {
+    any(item::read(field(r, 0, mem)))
+}
+
 fn numbers(r: Request) -> Numbers {
     Numbers {
         timestamp: number(r, 1),
@@ -210,7 +214,7 @@ fn newer(r: Request, mem: &[u8], lent: &mut [u8]) -> Answer {
 
 pub(crate) fn answer(entry: u8, r: Request, mem: &[u8], lent: &mut [u8]) -> Answer {
     match entry {
-        b'a' => read(item::read(field(r, 0, mem))),
+        b'a' => read(r, mem),
         b'b' => write(r, mem, lent),
         _ => newer(r, mem, lent),
     }
