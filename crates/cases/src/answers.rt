@@ -75,8 +75,9 @@ fn put_bytes(out: &mut [u8], at: usize, s: &[u8]) -> usize {
     let mut p = put(out, at, b'x');
     let mut i = 0;
     while i < s.len() {
-        p = put(out, p, digit(s[i] / 16));
-        p = put(out, p, digit(s[i] % 16));
+        let b = s[i];
+        p = put(out, p, digit(b / 16));
+        p = put(out, p, digit(b % 16));
         i += 1;
     }
     p

@@ -1,10 +1,10 @@
 // What the entries of the crates hash and sha256 call.
-ghost use Prim.Native.Nat.{_≤_};
 ghost use mathlib.Core.Path.{_≡_};
 ghost use lib.ListN.{length};
 use crate::answers::Answer;
 use crate::answers::keep;
 use crate::answers::words;
+use crate::cut::part;
 use crate::request::Request;
 use crate::request::field;
 use hash::Digest;
@@ -21,12 +21,6 @@ pub(crate) fn hash_from(s: &[u8]) -> [u8; 32] {
     b
 }
 
-fn digest_from(s: &[u8]) -> Digest {
-    Digest {
-        bytes: hash_from(s),
-    }
-}
-
 fn kept(d: Digest, lent: &mut [u8]) -> u64 {
     let b = d.bytes;
     keep(&b, lent)
@@ -37,23 +31,13 @@ fn hashed(h: Hashed, lent: &mut [u8]) -> Answer {
 }
 
 fn node(r: Request, mem: &[u8], lent: &mut [u8]) -> Answer {
-    let d = hash::node(digest_from(field(r, 0, mem)), digest_from(field(r, 1, mem)));
-    words(kept(d, lent), 0, 0, 0, 0, 0)
-}
-
-fn byte_of(s: &[u8], i: usize) -> u32
-    ensures { λ r. ⌜ r ≤ 255 ⌝ }
-{
-    if i < s.len() {
-        return wide(s[i]);
-    }
-    0
-}
-
-fn wide(x: u8) -> u32
-    ensures { λ r. ⌜ r ≤ 255 ⌝ }
-{
-    x as u32
+    let left = Digest {
+        bytes: hash_from(field(r, 0, mem)),
+    };
+    let right = Digest {
+        bytes: hash_from(field(r, 1, mem)),
+    };
+    words(kept(hash::node(left, right), lent), 0, 0, 0, 0, 0)
 }
 
 // Word t of a list of words, four bytes each, the highest first.
@@ -61,8 +45,7 @@ fn word_of(s: &[u8], t: usize) -> u32 {
     if t >= 256 {
         return 0;
     }
-    let i = 4 * t;
-    ((byte_of(s, i) * 256 + byte_of(s, i + 1)) * 256 + byte_of(s, i + 2)) * 256 + byte_of(s, i + 3)
+    (item::big_endian(part(s, 4 * t, 4 * t + 4)) % 4294967296) as u32
 }
 
 // The words of a list, and zeros after them.

@@ -122,7 +122,7 @@ fn statement(found: Item) -> Answer {
     }
 }
 
-fn read(found: Item) -> Answer {
+fn any(found: Item) -> Answer {
     match found {
         Item::Entry {
             kind,
@@ -166,6 +166,10 @@ fn refused(number: u32, place: usize) -> Answer {
         count: 2,
         number: [number as u64, place as u64, 0, 0, 0, 0, 0, 0, 0, 0, 0, 0],
     }
+}
+
+fn read(r: Request, mem: &[u8]) -> Answer {
+    any(item::read(field(r, 0, mem)))
 }
 
 fn numbers(r: Request) -> Numbers {
@@ -219,7 +223,7 @@ fn path_into(r: Request, mem: &[u8], lent: &mut [u8]) -> Answer {
 
 pub(crate) fn answer(entry: u8, r: Request, mem: &[u8], lent: &mut [u8]) -> Answer {
     match entry {
-        b'a' => read(item::read(field(r, 0, mem))),
+        b'a' => read(r, mem),
         b'b' => write(r, mem, lent),
         b'c' => newer(r, mem, lent),
         _ => path_into(r, mem, lent),

@@ -17,10 +17,6 @@ fn built(b: Built) -> Answer {
     }
 }
 
-fn verdict(number: u32) -> Answer {
-    words(number as u64, 0, 0, 0, 0, 0)
-}
-
 fn inclusion(r: Request, mem: &[u8]) -> u32 {
     inclusion_verdict(
         field(r, 0, mem),
@@ -47,7 +43,7 @@ pub(crate) fn answer(entry: u8, r: Request, mem: &[u8], lent: &mut [u8]) -> Answ
         b'a' => built(tree::build::root(leaves, lent)),
         b'b' => built(inclusion_path(leaves, number(r, 1), lent)),
         b'c' => built(consistency_path(leaves, number(r, 1), lent)),
-        b'd' => verdict(inclusion(r, mem)),
-        _ => verdict(consistency(r, mem)),
+        b'd' => words(inclusion(r, mem) as u64, 0, 0, 0, 0, 0),
+        _ => words(consistency(r, mem) as u64, 0, 0, 0, 0, 0),
     }
 }
