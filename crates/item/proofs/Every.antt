@@ -1,8 +1,9 @@
 -- Both round trips, and the path of an item that was read, over the contracts as the source states them: each answer is any that the function's `ensures`
 -- allows, so that a weaker `ensures` does not prove them. Assumes nothing.
-use mathlib.Core.Path.{_≡_, ap, sym, subst, _∙_}
-use mathlib.Core.List.{List, _++_}
+use mathlib.Core.Path.{_≡_, refl, ap, ap₂, sym, subst, _∙_}
+use mathlib.Core.List.{List, [], _++_}
 use Prim.Native.Nat.{ℕ, _≤_}
+use native.Mathlib.Omega.{arith}
 use lib.ListN.{length, take, drop}
 use lib.Seq.{take-at}
 use borrow.Author.Tests.{le-ltb}
@@ -14,11 +15,11 @@ use Rattle.item.specs.declared.reader.Item.the-variants.{Entry, Receipt,
 use Rattle.item.specs.declared.writer.Numbers.{Numbers}
 use Rattle.item.specs.declared.writer.Written.{Written}
 use Rattle.item.specs.declared.writer.Written.the-variants.{Length, Refused as refusedAt}
-use Rattle.item.specs.Answer.{good}
+use Rattle.item.specs.Answer.{Answer, good, bad}
 use Rattle.item.specs.Layout.{Bytes}
 use Rattle.item.specs.Item.{reading, readItem, Vectors, vectors, writing, Outcome, wrote, writeItem}
 use Rattle.item.specs.Path.{pathAt, copyPath}
-use Rattle.item.specs.Claims.{Sized, Joins, Taken, Copied}
+use Rattle.item.specs.Claims.{Sized, Joins, Taken, Copied, TakenThenWritten, WrittenThenTaken}
 use Rattle.item.proofs.Answers.{bad-good, same-good}
 use Rattle.item.proofs.Lent.{was-put}
 use Rattle.item.proofs.Trips.{taken-then-written, written-then-taken, path-is-said}
@@ -146,3 +147,66 @@ path-comes s i p r h = go i (r .learnt) h
     go (Refused x y) e h = absurd h
     go (Consistency k a b c q) e h = let y = path-is-said (s .now) _ (sym e) tt in rw h (record { path = y .path; says = y .says; comes = wrote-comes s q (y .path) (y .copied) })
     go (Inclusion k a b c q) e h = let y = path-is-said (s .now) _ (sym e) tt in rw h (record { path = y .path; says = y .says; comes = wrote-comes s q (y .path) (y .copied) })
+
+-- The claims follow from these: any bytes can stand behind a reference, and what a definition says is one of the answers that the contracts allow.
+ref : List ℕ → RefT (List ℕ)
+ref l = record { ptr = (0, 0); name = 0; now = l }
+
+slices : Vectors → Slices
+slices t =
+    record {
+      log = ref (t .logId);
+      issuer = ref (t .issuerKeyHash);
+      certificate = ref (t .certificate);
+      root = ref (t .rootHash);
+      extensions = ref (t .extensions);
+      signature = ref (t .signature);
+      path = ref (t .path);
+      body = ref (t .body);
+    }
+
+told : Answer ℕ → Written
+told (good n) = Length n
+told (bad x at) = refusedAt x at
+
+told-is : (a : Answer ℕ) → writing (told a) ≡ a
+unfolding told
+told-is (good n) = refl
+told-is (bad x at) = refl
+
+copied-through : (s : List ℕ) (p : Part) (w : List ℕ) → Copied s p w → Through (ref s) p w
+unfolding copyPath ref
+copied-through s p w e =
+    let l : length w ≤ length w = omega arith in
+    let q : copyPath s p w ≡ wrote w w = rw (e, le-ltb _ _ l) in
+    record {
+      out = ref w;
+      after = ref (copyPath s p w .bytes);
+      count = length w;
+      copies = record { lives = ([], ([], tt)); learnt = (sym (ap (λ (o : Outcome). o .answer) q), refl) };
+      is = sym (ap (λ (o : Outcome). take (length w) (o .bytes)) q ∙ take-at w (drop (length w) w) (length w) refl);
+    }
+
+comes-copied : (s : List ℕ) (p : Part) (w : List ℕ) → Comes (ref s) p w → Copied s p w
+unfolding copyPath ref
+comes-copied s p w c =
+    let a = copyPath s p w .answer in
+    let r = c (ref w) (ref (copyPath s p w .bytes)) (told a) (record { lives = ([], ([], tt)); learnt = (told-is a, refl) }) (omega arith) in
+    let b = was-put (pathAt s p) w (length w) (sym (told-is a) ∙ ap writing (r .0)) in
+    let z : b .bytes ≡ w = sym (take-at (b .bytes) (drop (length w) w) (length w) (sym (b .size))) ∙ ap (take (length w)) (sym (b .after) ∙ r .1) ∙ take-at w (drop (length w) w) (length w) refl in
+    b .is ∙ ap good z
+
+pub written-claimed : TakenThenWritten
+unfolding ref slices
+written-claimed s out i k n t bs e h fit =
+    let o = writeItem k n t out in
+    let r = read-then-written (ref s) (ref out) (ref (o .bytes)) i k n (slices t) (told (o .answer)) bs (record { lives = ([], tt); learnt = e }) (taken-by (Copied s) (Through (ref s)) s i k n t (copied-through s) h) fit (record { lives = ([], ([], tt)); learnt = (told-is (o .answer), refl) }) in
+    ap₂ (λ (x : Answer ℕ) (y : List ℕ). record { answer = x; bytes = y }) (sym (told-is (o .answer)) ∙ ap writing (r .0)) (r .1)
+
+pub taken-claimed : WrittenThenTaken
+unfolding ref slices
+taken-claimed k n t out m i z e d =
+    let o = writeItem k n t out in
+    let s = take m (o .bytes) in
+    let r = written-then-read k n (slices t) (ref out) (ref (o .bytes)) m (ref s) i z (record { lives = ([], ([], tt)); learnt = (sym e, refl) }) refl (record { lives = ([], tt); learnt = d }) in
+    taken-by (Comes (ref s)) (Copied s) s i k n t (comes-copied s) r
