@@ -1,25 +1,32 @@
 -- The third demand over the contracts as the source states them: each call's answer is any that its `ensures` allows, so that a weaker `ensures` does not
 -- prove it. Assumes nothing.
-use mathlib.Core.Path.{_≡_, refl, sym, ap, ap₂, _∙_}
+use mathlib.Core.Path.{_≡_, refl, sym, ap, _∙_}
 use mathlib.Core.List.{List, [], _∷_, _++_}
-use Prim.Native.Nat.{ℕ, zero, suc, _≤_}
+use Prim.Native.Nat.{ℕ, zero, suc, _+_, _≤_}
+use native.Mathlib.Omega.{arith}
 use lib.ListN.{length, take}
 use contract.Lifetimes.{Lfts}
 use denote.Ref.{RefT}
 use Rattle.auditor.specs.declared.Record.{Record}
 use Rattle.auditor.specs.declared.Answered.{Answered}
 use Rattle.auditor.specs.declared.dispute.Settled.{Settled}
+use Rattle.auditor.specs.declared.dispute.Settled.the-variants.{Same, Nodes, Pages, Refused}
 use Rattle.auditor.specs.declared.journal.Appended.the-variants.{Used}
+use Rattle.hash.specs.Digest.{sha256}
+use Rattle.tree.specs.Build.{Outcome, wrote}
+use Rattle.item.specs.Steps.{put}
 use Rattle.auditor.specs.Held.{none}
-use Rattle.auditor.specs.Heads.{lastSize, lastRoot, joinedHeads}
+use Rattle.auditor.specs.Offer.{offered}
+use Rattle.auditor.specs.Page.{asked}
+use Rattle.auditor.specs.Heads.{lastSize, lastRoot, joinedHeads, headsOf}
 use Rattle.auditor.specs.Calls.{Call, offer, ask, Entry, answered, called, answers, final, heads}
-use Rattle.auditor.specs.Dispute.{settling}
-use Rattle.auditor.specs.Demand.{Tells, Settles}
-use Rattle.sha256.specs.Told.{done}
+use Rattle.auditor.specs.Dispute.{Ruling, samePage, ofNodes, ofPages, settling, report as outcome, pairAfter, dispute}
+use Rattle.auditor.specs.Demand.{Tells, Settles, WhateverGiven, Demand3}
+use Rattle.sha256.specs.Told.{Told, done, refused}
 use Rattle.auditor.specs.Journal.{append, report, journalAfter}
-use Rattle.auditor.specs.Keeping.{kept, noted, onward, journaled}
+use Rattle.auditor.specs.Keeping.{kept, noted, onward, journaled, AsKept}
 use Rattle.auditor.proofs.Settling.{whatever-given, demand3}
-use Rattle.auditor.proofs.Keeping.{as-kept}
+use Rattle.auditor.proofs.Keeping.{no-lost, as-kept}
 use Rattle.auditor.proofs.empty.Reads as empty-reads
 use Rattle.auditor.proofs.head.offer.Reads as offer-reads
 use Rattle.auditor.proofs.page.ask.Reads as ask-reads
@@ -157,3 +164,99 @@ every-kept start held held₂ s before between place page₁ path₁ page₂ pat
     let k = as-kept (w .0) (v .0) place (page₁ .now) (path₁ .now) (page₂ .now) (path₂ .now) lent bytes used (pair .now)
     (ap (λ (o : Answered). o .number) g ∙ z) j (ap (λ (o : Answered). o .number) f ∙ y) long in
     rw (p .0, p .1, er, ej) (rw e at k)
+
+-- ---- the claims, through the contracts: the definitions' answers are among those that the contracts allow
+
+ref : List ℕ → RefT (List ℕ)
+ref l = record { ptr = (0, 0); name = 0; now = l }
+
+-- the code's answer that tells this
+said : Told Ruling → Settled
+said (done samePage) = Same
+said (done ofNodes) = Nodes
+said (done ofPages) = Pages
+said (refused n) = Refused n
+
+said-is : (t : Told Ruling) → settling (said t) ≡ t
+unfolding said
+said-is (done samePage) = refl
+said-is (done ofNodes) = refl
+said-is (done ofPages) = refl
+said-is (refused n) = refl
+
+runs : (r : Record) (calls : List Call) → Run r (answers r calls) (final r calls)
+unfolding answers final called ref
+runs r [] = stop
+runs r (offer id time size root path ∷ calls) =
+    offers ([], ([], ([], tt))) (ref id) time size (ref root) (ref path) (offered r id time size root path) refl (runs (offered r id time size root path .after) calls)
+runs r (ask place page path ∷ calls) = asks ([], ([], tt)) place (ref page) (ref path) (asked r place page path) refl (runs (asked r place page path .after) calls)
+
+takes-one : (r s : Record) (es : List Entry) (id : List ℕ) (time size : ℕ) (root path lent bytes : List ℕ) (start used : ℕ) (w : Outcome) → append (length lent) start size root path ≡ w →
+    offered r id time size root path .number ≡ 0 → onward (noted (journalAfter start w lent) (report start w)) (journaled es) ≡ kept bytes used →
+    ((l : List ℕ) (u : ℕ) → journaled es l u ≡ kept bytes used → Journals (offered r id time size root path .after) es s l u bytes used) →
+    Journals r (answered (offer id time size root path) (offered r id time size root path .number) ∷ es) s lent start bytes used
+unfolding ref noted onward report journalAfter
+takes-one r s es id time size root path lent bytes start used (Outcome.refused n) q z e i = absurd (no-lost bytes used n e)
+takes-one r s es id time size root path lent bytes start used (wrote x) q z e i =
+    takes ([], ([], ([], tt))) (ref id) time size (ref root) (ref path) (offered r id time size root path) refl z ([], ([], ([], tt))) (ref lent) (ref (put lent start x)) start (start + length x)
+    (rw q (refl, refl)) (i (put lent start x) (start + length x) e)
+
+some-one : (r s : Record) (es : List Entry) (id : List ℕ) (time size : ℕ) (root path lent bytes : List ℕ) (start used n : ℕ) → offered r id time size root path .number ≡ n →
+    journaled (answered (offer id time size root path) n ∷ es) lent start ≡ kept bytes used →
+    ((l : List ℕ) (u : ℕ) → journaled es l u ≡ kept bytes used → Journals (offered r id time size root path .after) es s l u bytes used) →
+    Journals r (answered (offer id time size root path) (offered r id time size root path .number) ∷ es) s lent start bytes used
+unfolding ref journaled
+some-one r s es id time size root path lent bytes start used zero z e i =
+    takes-one r s es id time size root path lent bytes start used (append (length lent) start size root path) refl z e i
+some-one r s es id time size root path lent bytes start used (suc n) z e i =
+    refuses ([], ([], ([], tt))) (ref id) time size (ref root) (ref path) (offered r id time size root path) refl (λ y. one-zero (sym z ∙ y)) (i lent start e)
+  where
+    one-zero : suc n ≡ 0 → ⊥
+    one-zero y = omega arith
+
+journals : (r : Record) (calls : List Call) (lent bytes : List ℕ) (start used : ℕ) → journaled (answers r calls) lent start ≡ kept bytes used → Journals r (answers r calls) (final r calls) lent start bytes used
+unfolding answers final called journaled ref
+journals r [] lent bytes start used e =
+    let b : lent ≡ bytes = cc in
+    let u : start ≡ used = cc in
+    rw (b, u) stop
+journals r (offer id time size root path ∷ calls) lent bytes start used e =
+    let o = offered r id time size root path in
+    some-one r (final (o .after) calls) (answers (o .after) calls) id time size root path lent bytes start used (o .number) refl e (λ l u f. journals (o .after) calls l bytes u used f)
+journals r (ask place page path ∷ calls) lent bytes start used e =
+    let o = asked r place page path in
+    asks ([], ([], tt)) place (ref page) (ref path) o refl (journals (o .after) calls lent bytes start used e)
+
+seven : Lfts 7
+seven = ([], ([], ([], ([], ([], ([], ([], tt)))))))
+
+pub whatever-claimed : WhateverGiven
+unfolding ref
+whatever-claimed page₁ place path₁ size root between page₂ path₂ pair =
+    let d = dispute sha256 page₁ place path₁ size root (headsOf between) page₂ path₂ (length pair) in
+    rw (said-is (outcome d)) at
+    (tells seven place size (ref page₁) (ref path₁) (ref root) (ref between) (ref page₂) (ref path₂) (ref pair) (ref (pairAfter d pair)) (said (outcome d)) (said-is (outcome d), refl))
+
+pub demand3-claimed : Demand3
+unfolding ref
+demand3-claimed calls before between rest place page₁ path₁ page₂ path₂ pair e long =
+    let m = lastSize 0 (heads before) in
+    let r = lastRoot [] (heads before) in
+    let h = joinedHeads (heads between) in
+    let d = dispute sha256 page₁ place path₁ m r (headsOf h) page₂ path₂ (length pair) in
+    let run : Run none (before ++ (answered (ask place page₁ path₁) 0 ∷ (between ++ (answered (ask place page₂ path₂) 0 ∷ rest)))) (final none calls) = rw e at (runs none calls) in
+    rw (said-is (outcome d)) at
+    (every none (final none calls) refl before between rest place (ref page₁) (ref path₁) (ref page₂) (ref path₂) run seven m (ref r) (ref h) (ref pair) (ref (pairAfter d pair)) (said (outcome d))
+    refl refl refl long (said-is (outcome d), refl))
+
+pub kept-claimed : AsKept
+unfolding ref called
+kept-claimed earlier between place page₁ path₁ page₂ path₂ lent bytes used pair a j b long =
+    let held = final none earlier in
+    let first = asked held place page₁ path₁ in
+    let held₂ = final (first .after) between in
+    let d = dispute sha256 page₁ place path₁ (held .size) (held .root) (headsOf (take used bytes)) page₂ path₂ (length pair) in
+    rw (said-is (outcome d)) at
+    (every-kept none held held₂ refl (answers none earlier) (answers (first .after) between) place (ref page₁) (ref path₁) (ref page₂) (ref path₂) ([], ([], tt)) ([], ([], tt)) first (asked held₂ place page₂ path₂) lent bytes used
+    (runs none earlier) refl a (journals (first .after) between lent bytes 0 used j) refl b seven (ref (held .root)) (ref (take used bytes)) (ref pair) (ref (pairAfter d pair)) (said (outcome d))
+    refl refl long (said-is (outcome d), refl))

@@ -37,7 +37,7 @@ use Rattle.auditor.proofs.Holding.{held-is-accepted}
 use Rattle.auditor.proofs.Journaling.{one-head, head-length, fits}
 use Rattle.auditor.proofs.Settling.{Agrees, agrees, demand3}
 
-no-lost : (b : List ℕ) (u n : ℕ) → lost n ≡ kept b u → ⊥
+pub no-lost : (b : List ℕ) (u n : ℕ) → lost n ≡ kept b u → ⊥
 no-lost b u n e = let y : _≡_ {A = ℕ} 0 1 = cc in omega arith
 
 -- one head in front of others

@@ -1,7 +1,8 @@
--- `auditor::claims`: what every list of calls keeps. Assumes nothing.
-use Rattle.auditor.proofs.Settling.{demand3, whatever-given, two-auditors}
+-- `auditor::claims`: what every list of calls keeps; the third demand through the contracts as they stand. Assumes nothing.
+use Rattle.auditor.proofs.Settling.{two-auditors}
+use Rattle.auditor.proofs.Every.{demand3-claimed, kept-claimed, whatever-claimed}
 use Rattle.auditor.proofs.Holding.{held-is-accepted, refused-add-nothing, never-back}
-use Rattle.auditor.proofs.Keeping.{as-kept, journal-joins, long-enough}
+use Rattle.auditor.proofs.Keeping.{journal-joins, long-enough}
 use Rattle.auditor.proofs.Computing.{disputed}
 use Rattle.auditor.proofs.Enums.{settling-faithful, appending-faithful}
 use Rattle.auditor.proofs.Serving.{honest-log}
@@ -9,7 +10,7 @@ use Rattle.auditor.proofs.claims.Statement.{statement}
 use Rattle.auditor.proofs.claims.Tie as tie
 
 returns : tie.Need-returns
-returns c = (demand3, (as-kept, (journal-joins, (long-enough, (whatever-given, (two-auditors, (held-is-accepted, (refused-add-nothing, (never-back, (disputed, (honest-log, (settling-faithful, appending-faithful))))))))))))
+returns c = (demand3-claimed, (kept-claimed, (journal-joins, (long-enough, (whatever-claimed, (two-auditors, (held-is-accepted, (refused-add-nothing, (never-back, (disputed, (honest-log, (settling-faithful, appending-faithful))))))))))))
 
 pub claims-spec : {M : Type 1} → statement M
 claims-spec = tie.close (tie.spec returns)
