@@ -7,4 +7,3 @@ pub mod Carries
 pub mod Cases
 pub mod Levels
 pub mod Examples
-pub mod Claims

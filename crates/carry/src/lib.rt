@@ -11,20 +11,20 @@ mod walk; // the way down to the full subtree that holds a place
 ghost use Rattle.sha256.specs.Told.{Faithful};
 ghost use Rattle.carry.specs.Carries.{Carrying, Honest};
 ghost use Rattle.carry.specs.Cases.{Starred};
-ghost use Rattle.carry.specs.Claims.{OfAnyHash};
+ghost use Rattle.tree.specs.Claims.{OfEvery, OfEvery32};
 ghost use Rattle.carry.specs.Compare.{comparing};
 ghost use Rattle.carry.specs.Compares.{Comparing};
 ghost use Rattle.carry.specs.Examples.{Collisions};
 ghost use Rattle.carry.specs.Forward.{carrying};
 ghost use Rattle.carry.specs.Levels.{Levelled};
 
-// What is proved of carrying and comparing beside their own promises: over any hash of 32-byte values, of the paper's cases, of examples with
+// What is proved of carrying and comparing beside their own promises: of every hash, or of every hash of 32 bytes; of the paper's cases, of examples with
 // collisions, and that what the answers tell loses nothing. It does nothing.
 pub fn claims()
-    ensures carries { λ _. ⌜ OfAnyHash Carrying ⌝ }
-    ensures honest_list { λ _. ⌜ OfAnyHash Honest ⌝ }
-    ensures compares { λ _. ⌜ OfAnyHash Comparing ⌝ }
-    ensures topmost { λ _. ⌜ OfAnyHash Levelled ⌝ }
+    ensures carries { λ _. ⌜ OfEvery32 Carrying ⌝ }
+    ensures honest_list { λ _. ⌜ OfEvery32 Honest ⌝ }
+    ensures compares { λ _. ⌜ OfEvery32 Comparing ⌝ }
+    ensures topmost { λ _. ⌜ OfEvery Levelled ⌝ }
     ensures starred { λ _. ⌜ Starred ⌝ }
     ensures collisions { λ _. ⌜ Collisions ⌝ }
     ensures carrying_loses_nothing { λ _. ⌜ Faithful carrying ⌝ }

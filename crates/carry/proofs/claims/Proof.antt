@@ -10,7 +10,7 @@ use Rattle.carry.proofs.claims.Statement.{statement}
 use Rattle.carry.proofs.claims.Tie as tie
 
 returns : tie.Need-returns
-returns c = (carrying, (honest, (comparing, (λ H H32. levelled H, (starred, (collisions, (carrying-faithful, comparing-faithful)))))))
+returns c = (carrying, (honest, (comparing, (levelled, (starred, (collisions, (carrying-faithful, comparing-faithful)))))))
 
 pub claims-spec : {M : Type 1} → statement M
 claims-spec = tie.close (tie.spec returns)
