@@ -59,10 +59,10 @@ fn answer(
 fn one(
     rows: &[u8],
     line: &[u8],
-    mem: &mut [u8],
-    lent: &mut [u8],
-    pair: &mut [u8],
-    out: &mut [u8],
+    mem: &mut [u8; 1048576],
+    lent: &mut [u8; 1048576],
+    pair: &mut [u8; 1048576],
+    out: &mut [u8; 2097664],
 ) -> bool {
     let row = table::row(rows, word(line, 0));
     let r = parse(line, word(row, 2), mem);
