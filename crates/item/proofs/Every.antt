@@ -1,5 +1,5 @@
--- Both round trips, and the path of an item that was read, over the contracts as the source states them: each answer is any that the function's `ensures`
--- allows, so that a weaker `ensures` does not prove them. Assumes nothing.
+-- Both round trips over the contracts as the source states them: each answer is any that the function's `ensures` allows, so that a weaker `ensures` does
+-- not prove them. Assumes nothing.
 use mathlib.Core.Path.{_≡_, refl, ap, ap₂, sym, subst, _∙_}
 use mathlib.Core.List.{List, [], _++_}
 use Prim.Native.Nat.{ℕ, _≤_}
@@ -17,12 +17,12 @@ use Rattle.item.specs.declared.writer.Written.{Written}
 use Rattle.item.specs.declared.writer.Written.the-variants.{Length, Refused as refusedAt}
 use Rattle.item.specs.Answer.{Answer, good, bad}
 use Rattle.item.specs.Layout.{Bytes}
-use Rattle.item.specs.Item.{reading, readItem, Vectors, vectors, writing, Outcome, wrote, writeItem}
+use Rattle.item.specs.Item.{readItem, Vectors, vectors, writing, Outcome, wrote, writeItem}
 use Rattle.item.specs.Path.{pathAt, copyPath}
-use Rattle.item.specs.Claims.{Sized, Joins, Taken, Copied, TakenThenWritten, WrittenThenTaken}
+use Rattle.item.specs.Claims.{Sized, Taken, Copied, TakenThenWritten, WrittenThenTaken}
 use Rattle.item.proofs.Answers.{bad-good, same-good}
 use Rattle.item.proofs.Lent.{was-put}
-use Rattle.item.proofs.Trips.{taken-then-written, written-then-taken, path-is-said}
+use Rattle.item.proofs.Trips.{taken-then-written, written-then-taken}
 use Rattle.item.proofs.reader.read.Reads as read-reads
 use Rattle.item.proofs.path.path_into.Reads as path-reads
 use Rattle.item.proofs.writer.write.Reads as write-reads
@@ -120,33 +120,6 @@ written-then-read k n v out after m s i z w e r =
     let f : s .now ≡ take m b = e ∙ ap (take m) (w .learnt .1) in
     let q = written-then-taken k n (held v) (out .now) m i z (sym (w .learnt .0)) (r .learnt ∙ ap readItem f) in
     taken-by (Copied (s .now)) (Comes s) (s .now) i k n (held v) (copied-comes s) (subst (λ (x : List ℕ). Taken (Copied x) x i k n (held v)) (sym f) q)
-
--- the path of an item that was read: its hashes as they stand there, and whatever `path_into` answers of it, it has joined these
-abbrev pub PathOf : Item → Part → Type 0
-PathOf (Consistency k l a b p) q = q ≡ p
-PathOf (Inclusion k l z m p) q = q ≡ p
-PathOf (Entry k a b c d) q = ⊥
-PathOf (Receipt k a b c d) q = ⊥
-PathOf (SignedHead k a b c d e f) q = ⊥
-PathOf (Page k a b c d) q = ⊥
-PathOf (Refused x y) q = ⊥
-
-pub record PathComes (s : RefT (List ℕ)) (p : Part) : Type 0 where
-  pub path : List ℕ
-  pub says : Joins (s .now) p path
-  pub comes : Comes s p path
-
-pub path-comes : (s : RefT (List ℕ)) (i : Item) (p : Part) → Reads s i → PathOf i p → PathComes s p
-path-comes s i p r h = go i (r .learnt) h
-  where
-    go : (i : Item) → reading i ≡ readItem (s .now) → PathOf i p → PathComes s p
-    go (Entry k a b c d) e h = absurd h
-    go (Receipt k a b c d) e h = absurd h
-    go (SignedHead k a b c d f g) e h = absurd h
-    go (Page k a b c d) e h = absurd h
-    go (Refused x y) e h = absurd h
-    go (Consistency k a b c q) e h = let y = path-is-said (s .now) _ (sym e) tt in rw h (record { path = y .path; says = y .says; comes = wrote-comes s q (y .path) (y .copied) })
-    go (Inclusion k a b c q) e h = let y = path-is-said (s .now) _ (sym e) tt in rw h (record { path = y .path; says = y .says; comes = wrote-comes s q (y .path) (y .copied) })
 
 -- The claims follow from these: any bytes can stand behind a reference, and what a definition says is one of the answers that the contracts allow.
 ref : List ℕ → RefT (List ℕ)
