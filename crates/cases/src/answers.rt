@@ -1,19 +1,45 @@
 // The words of an answer, written one after the other into a buffer. Each function answers the place after what it wrote; where the buffer is full it
 // writes nothing more.
 use crate::cut::part;
+use crate::request::MEMORY;
 
-// What an entry answers, beside the lent buffers: a number for each of at most `count` words, of which the entry's letters say what is written.
+// Room for two digits for each byte of the memory, and some numbers.
+pub(crate) const LINE: usize = 2 * MEMORY + 512;
+
+pub(crate) type Line = [u8; LINE];
+
+// What an entry answers: a number for each of at most `count` words, and two strings of bytes that it left in the lent buffer, one from the start up to
+// `mid`, the other from there up to `end`. The entry's letters say what is written.
 pub(crate) struct Answer {
     pub(crate) count: usize,
     pub(crate) number: [u64; 12],
+    pub(crate) mid: usize,
+    pub(crate) end: usize,
 }
 
-// Up to six words.
-pub(crate) fn words(a: u64, b: u64, c: u64, d: u64, e: u64, f: u64) -> Answer {
+// Up to three numbers.
+pub(crate) fn words(a: u64, b: u64, c: u64) -> Answer {
     Answer {
         count: 12,
-        number: [a, b, c, d, e, f, 0, 0, 0, 0, 0, 0],
+        number: [a, b, c, 0, 0, 0, 0, 0, 0, 0, 0, 0],
+        mid: 0,
+        end: 0,
     }
+}
+
+// A refusal, or 0.
+pub(crate) fn one(number: u32) -> Answer {
+    words(number as u64, 0, 0)
+}
+
+// An answer with two strings of these lengths in the lent buffer.
+pub(crate) fn strings(given: Answer, first: usize, second: usize) -> Answer {
+    let mut a = given;
+    if second <= usize::MAX - first {
+        a.mid = first;
+        a.end = first + second;
+    }
+    a
 }
 
 // An answer with one word more.
@@ -27,13 +53,24 @@ pub(crate) fn then(given: Answer, n: u64) -> Answer {
     a
 }
 
-// Puts bytes into a lent buffer, where it has room for them, and answers how many.
-pub(crate) fn keep(s: &[u8], lent: &mut [u8]) -> u64 {
-    if s.len() > lent.len() {
-        return 0;
+// Puts bytes at the start of a buffer, where it has room for them.
+pub(crate) fn keep(s: &[u8], lent: &mut [u8]) {
+    if s.len() <= lent.len() {
+        bytes::copy(s, lent);
     }
-    bytes::copy(s, lent);
-    s.len() as u64
+}
+
+// A buffer from a place on.
+pub(crate) fn behind<'a>(at: usize, lent: &'a mut [u8]) -> &'a mut [u8] {
+    if at > lent.len() {
+        return &mut lent[..0];
+    }
+    &mut lent[at..]
+}
+
+// Puts bytes into a buffer from a place on.
+pub(crate) fn keep_at(s: &[u8], at: usize, lent: &mut [u8]) {
+    keep(s, behind(at, lent));
 }
 
 fn number_of(a: Answer, i: usize) -> u64 {
@@ -43,12 +80,19 @@ fn number_of(a: Answer, i: usize) -> u64 {
     a.number[i]
 }
 
-fn put(out: &mut [u8], at: usize, b: u8) -> usize {
-    if at >= out.len() {
+fn put(out: &mut Line, at: usize, b: u8) -> usize {
+    if at >= LINE {
         return at;
     }
     out[at] = b;
     at + 1
+}
+
+fn space(out: &mut Line, at: usize) -> usize {
+    if at == 0 {
+        return at;
+    }
+    put(out, at, b' ')
 }
 
 fn digit(x: u8) -> u8 {
@@ -61,7 +105,7 @@ fn digit(x: u8) -> u8 {
     b'?'
 }
 
-fn put_text(out: &mut [u8], at: usize, s: &[u8]) -> usize {
+fn put_text(out: &mut Line, at: usize, s: &[u8]) -> usize {
     let mut p = at;
     let mut i = 0;
     while i < s.len() {
@@ -71,58 +115,55 @@ fn put_text(out: &mut [u8], at: usize, s: &[u8]) -> usize {
     p
 }
 
-fn put_bytes(out: &mut [u8], at: usize, s: &[u8]) -> usize {
+fn put_hex(out: &mut Line, at: usize, b: u8) -> usize {
+    let p = put(out, at, digit(b / 16));
+    put(out, p, digit(b % 16))
+}
+
+fn put_bytes(out: &mut Line, at: usize, s: &[u8]) -> usize {
     let mut p = put(out, at, b'x');
     let mut i = 0;
     while i < s.len() {
-        let b = s[i];
-        p = put(out, p, digit(b / 16));
-        p = put(out, p, digit(b % 16));
+        p = put_hex(out, p, s[i]);
         i += 1;
     }
     p
 }
 
-fn put_number(out: &mut [u8], at: usize, n: u64) -> usize {
+fn put_number(out: &mut Line, at: usize, n: u64) -> usize {
     let mut text = [0u8; 20];
     let k = io::decimal(n, &mut text);
     put_text(out, at, &text[..k])
 }
 
-// A space before every word but the first.
-fn space(out: &mut [u8], at: usize) -> usize {
-    if at == 0 {
-        return at;
+// The bytes of a letter: the buffer that the request lends (l), or the first (m) or second (p) string of the answer.
+fn string(letter: u8, a: Answer, lent: &[u8]) -> &[u8] {
+    match letter {
+        b'l' => lent,
+        b'm' => part(lent, 0, a.mid),
+        _ => part(lent, a.mid, a.end),
     }
-    put(out, at, b' ')
 }
 
-// A word by its letter: the number (n), a lent buffer (l, p), or as many bytes of the first as the number says (c).
-fn put_word(letter: u8, n: u64, lent: &[u8], pair: &[u8], out: &mut [u8], at: usize) -> usize {
-    match letter {
-        b'n' => put_number(out, at, n),
-        b'l' => put_bytes(out, at, lent),
-        b'p' => put_bytes(out, at, pair),
-        _ => put_bytes(out, at, part(lent, 0, n as usize)),
+// A word of a letter: the number x (n), or bytes. A space comes before every word but the first.
+fn put_word(letter: u8, x: u64, s: &[u8], out: &mut Line, at: usize) -> usize {
+    let p = space(out, at);
+    if letter == b'n' {
+        return put_number(out, p, x);
     }
+    put_bytes(out, p, s)
 }
 
 // The line of an answer.
-pub(crate) fn put_answer(
-    letters: &[u8],
-    a: Answer,
-    lent: &[u8],
-    pair: &[u8],
-    out: &mut [u8],
-) -> usize {
+pub(crate) fn put_answer(letters: &[u8], a: Answer, lent: &[u8], out: &mut Line) -> usize {
     let mut p = 0;
     let mut i = 0;
     while i < letters.len() {
         if i >= a.count {
             break;
         }
-        p = space(out, p);
-        p = put_word(letters[i], number_of(a, i), lent, pair, out, p);
+        let letter = letters[i];
+        p = put_word(letter, number_of(a, i), string(letter, a, lent), out, p);
         i += 1;
     }
     put(out, p, b'\n')

@@ -1,11 +1,11 @@
-// What the entries of the crate auditor call. A record's log id lies in the lent buffer, its root in the pair buffer, before and after.
+// What the entries of the crate auditor call. After a call the record's log id lies at the start of the lent buffer, its root behind it.
 use crate::answers::Answer;
 use crate::answers::keep;
+use crate::answers::keep_at;
+use crate::answers::one;
 use crate::answers::words;
 use crate::hashing::hash_from;
-use crate::request::Request;
-use crate::request::field;
-use crate::request::number;
+use crate::request::Numbers;
 use auditor::Answered;
 use auditor::Record;
 use auditor::dispute::Settled;
@@ -20,100 +20,118 @@ fn id_from(s: &[u8]) -> [u8; 127] {
     b
 }
 
-fn record(r: Request, id: &[u8], root: &[u8]) -> Record {
+fn record(n: Numbers, id: &[u8], root: &[u8]) -> Record {
     Record {
-        held: number(r, 0) == 1,
+        held: n.a == 1,
         id: id_from(id),
-        idlen: number(r, 2) as usize,
-        timestamp: number(r, 3),
-        size: number(r, 4),
+        idlen: n.b as usize,
+        timestamp: n.c,
+        size: n.d,
         root: hash_from(root),
     }
 }
 
-fn answered(a: Answered, id: &mut [u8], root: &mut [u8]) -> Answer {
-    let r = a.after;
+fn kept(r: Record, lent: &mut [u8]) {
     let i = r.id;
     let h = r.root;
-    keep(&i, id);
-    keep(&h, root);
-    words(
-        a.number as u64,
-        r.held as u64,
-        0,
-        r.idlen as u64,
-        r.timestamp,
-        r.size,
-    )
+    keep(&i, lent);
+    keep_at(&h, 127, lent);
 }
 
-fn offer(r: Request, mem: &[u8], given: Record) -> Answered {
-    auditor::head::offer(
-        given,
-        field(r, 6, mem),
-        number(r, 7),
-        number(r, 8),
-        field(r, 9, mem),
-        field(r, 10, mem),
-    )
-}
-
-fn page(r: Request, mem: &[u8], given: Record) -> Answered {
-    auditor::page::ask(given, number(r, 6), field(r, 7, mem), field(r, 8, mem))
+fn answered(a: Answered, lent: &mut [u8]) -> Answer {
+    let r = a.after;
+    kept(r, lent);
+    Answer {
+        count: 12,
+        number: [
+            a.number as u64,
+            r.held as u64,
+            0,
+            r.idlen as u64,
+            r.timestamp,
+            r.size,
+            0,
+            0,
+            0,
+            0,
+            0,
+            0,
+        ],
+        mid: 127,
+        end: 159,
+    }
 }
 
 fn settled(s: Settled) -> Answer {
     match s {
-        Settled::Same => words(0, 1, 0, 0, 0, 0),
-        Settled::Nodes => words(0, 2, 0, 0, 0, 0),
-        Settled::Pages => words(0, 3, 0, 0, 0, 0),
-        Settled::Refused(number) => words(number as u64, 0, 0, 0, 0, 0),
+        Settled::Same => words(0, 1, 0),
+        Settled::Nodes => words(0, 2, 0),
+        Settled::Pages => words(0, 3, 0),
+        Settled::Refused(number) => one(number),
     }
-}
-
-fn dispute(r: Request, mem: &[u8], pair: &mut [u8]) -> Answer {
-    settled(auditor::dispute::dispute(
-        field(r, 0, mem),
-        number(r, 1),
-        field(r, 2, mem),
-        number(r, 3),
-        field(r, 4, mem),
-        field(r, 5, mem),
-        field(r, 6, mem),
-        field(r, 7, mem),
-        pair,
-    ))
 }
 
 fn appended(a: Appended) -> Answer {
     match a {
-        Appended::Used(count) => words(0, count as u64, 0, 0, 0, 0),
-        Appended::Refused(number) => words(number as u64, 0, 0, 0, 0, 0),
+        Appended::Used(count) => words(0, count as u64, 0),
+        Appended::Refused(number) => one(number),
     }
 }
 
-fn append(r: Request, mem: &[u8], journal: &mut [u8]) -> Answer {
-    appended(auditor::journal::append(
-        journal,
-        number(r, 1) as usize,
-        number(r, 2),
-        field(r, 3, mem),
-        field(r, 4, mem),
-    ))
+fn offer(
+    n: Numbers,
+    id: &[u8],
+    root: &[u8],
+    log: &[u8],
+    head: &[u8],
+    path: &[u8],
+    lent: &mut [u8],
+) -> Answer {
+    answered(
+        auditor::head::offer(record(n, id, root), log, n.e, n.f, head, path),
+        lent,
+    )
+}
+
+fn page(n: Numbers, id: &[u8], root: &[u8], bytes: &[u8], path: &[u8], lent: &mut [u8]) -> Answer {
+    answered(
+        auditor::page::ask(record(n, id, root), n.e, bytes, path),
+        lent,
+    )
+}
+
+fn dispute(
+    n: Numbers,
+    page1: &[u8],
+    path1: &[u8],
+    root: &[u8],
+    heads: &[u8],
+    page2: &[u8],
+    path2: &[u8],
+    lent: &mut [u8],
+) -> Answer {
+    settled(auditor::dispute::dispute(page1, n.a, path1, n.b, root, heads, page2, path2, lent))
+}
+
+fn append(n: Numbers, root: &[u8], path: &[u8], lent: &mut [u8]) -> Answer {
+    appended(auditor::journal::append(lent, n.a as usize, n.b, root, path))
 }
 
 pub(crate) fn answer(
     entry: u8,
-    r: Request,
-    mem: &[u8],
+    n: Numbers,
+    a: &[u8],
+    b: &[u8],
+    c: &[u8],
+    d: &[u8],
+    e: &[u8],
+    f: &[u8],
     lent: &mut [u8],
-    pair: &mut [u8],
 ) -> Answer {
-    let given = record(r, lent, pair);
     match entry {
-        b'a' => answered(offer(r, mem, given), lent, pair),
-        b'b' => answered(page(r, mem, given), lent, pair),
-        b'c' => dispute(r, mem, pair),
-        _ => append(r, mem, lent),
+        b'a' => offer(n, a, b, c, d, e, lent),
+        b'b' => page(n, a, b, c, d, lent),
+        b'c' => dispute(n, a, b, c, d, e, f, lent),
+        _ => append(n, a, b, lent),
     }
 }

@@ -2,11 +2,11 @@
 ghost use mathlib.Core.Path.{_≡_};
 ghost use lib.ListN.{length};
 use crate::answers::Answer;
+use crate::answers::behind;
 use crate::answers::keep;
-use crate::answers::words;
+use crate::answers::one;
+use crate::answers::strings;
 use crate::cut::part;
-use crate::request::Request;
-use crate::request::field;
 use hash::Digest;
 use hash::Hashed;
 use sha256::State;
@@ -21,23 +21,24 @@ pub(crate) fn hash_from(s: &[u8]) -> [u8; 32] {
     b
 }
 
-fn kept(d: Digest, lent: &mut [u8]) -> u64 {
+fn kept(number: u32, d: Digest, lent: &mut [u8]) -> Answer {
     let b = d.bytes;
-    keep(&b, lent)
+    keep(&b, lent);
+    strings(one(number), 32, 0)
 }
 
 fn hashed(h: Hashed, lent: &mut [u8]) -> Answer {
-    words(h.number as u64, kept(h.digest, lent), 0, 0, 0, 0)
+    kept(h.number, h.digest, lent)
 }
 
-fn node(r: Request, mem: &[u8], lent: &mut [u8]) -> Answer {
-    let left = Digest {
-        bytes: hash_from(field(r, 0, mem)),
-    };
-    let right = Digest {
-        bytes: hash_from(field(r, 1, mem)),
-    };
-    words(kept(hash::node(left, right), lent), 0, 0, 0, 0, 0)
+fn digest_from(s: &[u8]) -> Digest {
+    Digest {
+        bytes: hash_from(s),
+    }
+}
+
+fn node(a: &[u8], b: &[u8], lent: &mut [u8]) -> Answer {
+    kept(0, hash::node(digest_from(a), digest_from(b)), lent)
 }
 
 // Word t of a list of words, four bytes each, the highest first.
@@ -62,16 +63,15 @@ fn words_from(s: &[u8]) -> [u32; 256]
 }
 
 fn state_from(s: &[u8]) -> State {
-    let w = words_from(s);
     State {
-        a: w[0],
-        b: w[1],
-        c: w[2],
-        d: w[3],
-        e: w[4],
-        f: w[5],
-        g: w[6],
-        h: w[7],
+        a: word_of(s, 0),
+        b: word_of(s, 1),
+        c: word_of(s, 2),
+        d: word_of(s, 3),
+        e: word_of(s, 4),
+        f: word_of(s, 5),
+        g: word_of(s, 6),
+        h: word_of(s, 7),
     }
 }
 
@@ -101,45 +101,43 @@ fn put_state(s: State, out: &mut [u8]) {
     put_words(&[s.a, s.b, s.c, s.d, s.e, s.f, s.g, s.h], out);
 }
 
-fn put_schedule(w: &[u32; 256], out: &mut [u8]) {
-    put_words(w, out);
-}
-
-fn stepped(number: u32, s: State, lent: &mut [u8]) -> Answer {
+// The schedule's bytes go behind the state's.
+fn stepped(number: u32, s: State, w: &[u32; 256], lent: &mut [u8]) -> Answer {
     put_state(s, lent);
-    words(number as u64, 32, 0, 0, 0, 0)
+    put_words(w, behind(32, lent));
+    one(number)
 }
 
-// The state after a step, or as it was where it is refused; the schedule is lent in the pair buffer.
-fn step(r: Request, mem: &[u8], lent: &mut [u8], pair: &mut [u8]) -> Answer {
-    let n = pair.len() / 4;
-    if n > 256 {
-        return words(0, 0, 0, 0, 0, 0);
+// A step in the first n words of a schedule.
+fn step_in(s: State, block: &[u8], w: &mut [u32], n: usize) -> Stepped {
+    if n > w.len() {
+        return Stepped::Refused(0);
     }
-    let s = state_from(field(r, 0, mem));
-    let mut w = words_from(pair);
-    let after = sha256::step(s, field(r, 1, mem), &mut w[..n]);
-    put_schedule(&w, pair);
+    sha256::step(s, block, &mut w[..n])
+}
+
+// The state after a step, or s where it is refused, and the schedule.
+fn told(after: Stepped, s: State, w: &[u32; 256], lent: &mut [u8]) -> Answer {
     match after {
-        Stepped::Done(t) => stepped(0, t, lent),
-        Stepped::Refused(number) => stepped(number, s, lent),
+        Stepped::Done(t) => stepped(0, t, w, lent),
+        Stepped::Refused(number) => stepped(number, s, w, lent),
     }
 }
 
-pub(crate) fn answer(
-    entry: u8,
-    r: Request,
-    mem: &[u8],
-    lent: &mut [u8],
-    pair: &mut [u8],
-) -> Answer {
-    let input = field(r, 0, mem);
+fn step(state: &[u8], block: &[u8], schedule: &[u8], lent: &mut [u8]) -> Answer {
+    let s = state_from(state);
+    let mut w = words_from(schedule);
+    let after = step_in(s, block, &mut w, schedule.len() / 4);
+    strings(told(after, s, &w, lent), 32, schedule.len())
+}
+
+pub(crate) fn answer(entry: u8, a: &[u8], b: &[u8], c: &[u8], lent: &mut [u8]) -> Answer {
     match entry {
-        b'a' => hashed(hash::digest_of(input), lent),
-        b'b' => hashed(hash::leaf(input), lent),
-        b'c' => node(r, mem, lent),
-        b'd' => words(hash::digest_into(input, lent) as u64, 0, 0, 0, 0, 0),
-        b'e' => words(hash::leaf_into(input, lent) as u64, 0, 0, 0, 0, 0),
-        _ => step(r, mem, lent, pair),
+        b'a' => hashed(hash::digest_of(a), lent),
+        b'b' => hashed(hash::leaf(a), lent),
+        b'c' => node(a, b, lent),
+        b'd' => one(hash::digest_into(a, lent)),
+        b'e' => one(hash::leaf_into(a, lent)),
+        _ => step(a, b, c, lent),
     }
 }

@@ -4,6 +4,11 @@ use crate::cut::part;
 use crate::cut::seek;
 use libc::STDIN_FILENO;
 
+// Room for a line, and for what was read behind it.
+pub(crate) const TEXT: usize = 262144;
+
+pub(crate) type Text = [u8; TEXT];
+
 // What was read and is not answered yet lies in the text from `from` up to `have`. Where `whole` is true it starts with a line, whose line feed is at
 // `to`; else there is no line feed before `to`. A line is `lost` where it is too long for the text, or where the input `ended` in it.
 pub(crate) struct Input {
@@ -62,9 +67,9 @@ fn shift(text: &mut [u8], from: usize, to: usize) {
 }
 
 // The same with room for more: what was answered goes; where that is nothing, the line itself is lost.
-fn room(text: &mut [u8], p: Input) -> Input {
+fn room(text: &mut Text, p: Input) -> Input {
     let mut r = p;
-    if r.have < text.len() {
+    if r.have < TEXT {
         return r;
     }
     if r.from == 0 {
@@ -100,7 +105,7 @@ fn end(p: Input) -> Input {
 }
 
 // The line after a line, the first after `start()`, where the text has it whole; else the text gets more of it.
-pub(crate) fn next(text: &mut [u8], p: Input) -> Input {
+pub(crate) fn next(text: &mut Text, p: Input) -> Input {
     let mut r = rest(p);
     r.to = seek(text, r.to, r.have, b'\n');
     if r.to < r.have {

@@ -1,14 +1,13 @@
 // What the entries of the crate item call.
 use crate::answers::Answer;
 use crate::answers::keep;
+use crate::answers::one;
+use crate::answers::strings;
 use crate::answers::then;
 use crate::answers::words;
-use crate::request::Request;
-use crate::request::field;
-use crate::request::number;
+use crate::request::Numbers;
 use crate::request::short;
 use item::Item;
-use item::Numbers;
 use item::Part;
 use item::Written;
 
@@ -16,6 +15,16 @@ use item::Written;
 const VECTOR: bool = true;
 
 const NUMBER: bool = false;
+
+// An answer of two numbers, to which more may come.
+fn numbered(a: u64, b: u64) -> Answer {
+    Answer {
+        count: 2,
+        number: [a, b, 0, 0, 0, 0, 0, 0, 0, 0, 0, 0],
+        mid: 0,
+        end: 0,
+    }
+}
 
 fn part(a: Answer, vector: bool, p: Part) -> Answer {
     if vector {
@@ -35,13 +44,7 @@ fn four(
     c: Part,
     d: Part,
 ) -> Answer {
-    let start = then(
-        Answer {
-            count: 1,
-            number: [0; 12],
-        },
-        kind as u64,
-    );
+    let start = numbered(0, kind as u64);
     part(part(part(part(start, one, a), two, b), three, c), VECTOR, d)
 }
 
@@ -70,7 +73,7 @@ fn proof(found: Item) -> Answer {
             place,
             path,
         } => four(kind, VECTOR, log_id, NUMBER, size, NUMBER, place, path),
-        _ => words(0, 0, 0, 0, 0, 0),
+        _ => numbered(0, 0),
     }
 }
 
@@ -156,76 +159,89 @@ fn any(found: Item) -> Answer {
             page,
             body,
         ),
-        Item::Refused { number, place } => refused(number, place),
+        Item::Refused { number, place } => numbered(number as u64, place as u64),
         _ => statement(found),
     }
 }
 
-fn refused(number: u32, place: usize) -> Answer {
-    Answer {
-        count: 2,
-        number: [number as u64, place as u64, 0, 0, 0, 0, 0, 0, 0, 0, 0, 0],
-    }
-}
-
-fn read(r: Request, mem: &[u8]) -> Answer {
-    any(item::read(field(r, 0, mem)))
-}
-
-fn numbers(r: Request) -> Numbers {
-    Numbers {
-        timestamp: number(r, 1),
-        size: number(r, 7),
-        size_one: number(r, 7),
-        size_two: number(r, 8),
-        place: number(r, 9),
-        agreement: number(r, 12),
-        page: short(r, 13),
+fn numbers(n: Numbers) -> item::Numbers {
+    item::Numbers {
+        timestamp: n.b,
+        size: n.c,
+        size_one: n.c,
+        size_two: n.d,
+        place: n.e,
+        agreement: n.f,
+        page: short(n.g),
     }
 }
 
 fn written(w: Written) -> Answer {
     match w {
-        Written::Length(count) => words(0, 0, count as u64, 0, 0, 0),
-        Written::Refused { number, place } => words(number as u64, place as u64, 0, 0, 0, 0),
+        Written::Length(count) => words(0, 0, count as u64),
+        Written::Refused { number, place } => words(number as u64, place as u64, 0),
     }
 }
 
-fn write(r: Request, mem: &[u8], lent: &mut [u8]) -> Answer {
+fn newer<'a>(a: &'a [u8], b: &'a [u8], lent: &mut [u8]) -> Answer {
+    let s = item::newer(a, b);
+    keep(s, lent);
+    strings(one(0), s.len(), 0)
+}
+
+fn path_into(n: Numbers, a: &[u8], lent: &mut [u8]) -> Answer {
+    let path = Part {
+        start: n.a as usize,
+        len: n.b as usize,
+        value: 0,
+    };
+    written(item::path_into(a, path, lent))
+}
+
+fn write<'a>(
+    n: Numbers,
+    id: &'a [u8],
+    key: &'a [u8],
+    certificate: &'a [u8],
+    extensions: &'a [u8],
+    signature: &'a [u8],
+    root: &'a [u8],
+    path: &'a [u8],
+    body: &'a [u8],
+    lent: &mut [u8],
+) -> Answer {
     written(item::write(
-        short(r, 0),
-        numbers(r),
-        field(r, 2, mem),
-        field(r, 3, mem),
-        field(r, 4, mem),
-        field(r, 10, mem),
-        field(r, 5, mem),
-        field(r, 6, mem),
-        field(r, 11, mem),
-        field(r, 14, mem),
+        short(n.a),
+        numbers(n),
+        id,
+        key,
+        certificate,
+        root,
+        extensions,
+        signature,
+        path,
+        body,
         lent,
     ))
 }
 
-fn newer(r: Request, mem: &[u8], lent: &mut [u8]) -> Answer {
-    let n = keep(item::newer(field(r, 0, mem), field(r, 1, mem)), lent);
-    words(n, 0, 0, 0, 0, 0)
-}
-
-fn path_into(r: Request, mem: &[u8], lent: &mut [u8]) -> Answer {
-    let path = Part {
-        start: number(r, 1) as usize,
-        len: number(r, 2) as usize,
-        value: 0,
-    };
-    written(item::path_into(field(r, 0, mem), path, lent))
-}
-
-pub(crate) fn answer(entry: u8, r: Request, mem: &[u8], lent: &mut [u8]) -> Answer {
+pub(crate) fn answer<'a>(
+    entry: u8,
+    n: Numbers,
+    a: &'a [u8],
+    b: &'a [u8],
+    c: &'a [u8],
+    d: &'a [u8],
+    e: &'a [u8],
+    f: &'a [u8],
+    g: &'a [u8],
+    h: &'a [u8],
+    lent: &mut [u8],
+) -> Answer {
     match entry {
-        b'a' => read(r, mem),
-        b'b' => write(r, mem, lent),
-        b'c' => newer(r, mem, lent),
-        _ => path_into(r, mem, lent),
+        b'a' => any(item::read(a)),
+        b'b' => write(n, a, b, c, d, e, f, g, h, lent),
+        b'c' => newer(a, b, lent),
+        _ => path_into(n, a, lent),
     }
 }

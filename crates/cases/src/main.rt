@@ -15,79 +15,56 @@ mod table;
 mod trees;
 mod value;
 
+use answers::LINE;
+use answers::Line;
 use answers::put_answer;
 use cut::part;
 use cut::word;
+use input::TEXT;
+use input::Text;
 use libc::STDOUT_FILENO;
-use request::LENT;
-use request::PAIR;
+use request::Memory;
 use request::Request;
-use request::field;
 use request::lend;
+use request::memory;
 use request::parse;
 
-fn text_buffer() -> [u8; 262144] {
-    [0; 262144]
+fn text() -> Text {
+    [0; TEXT]
 }
 
-fn memory() -> [u8; 1048576] {
-    [0; 1048576]
-}
-
-// Two digits for each byte of the memory, and some numbers.
-fn answer_buffer() -> [u8; 2097664] {
-    [0; 2097664]
+fn line() -> Line {
+    [0; LINE]
 }
 
 // Writes the answer to a request by the row of its entry; whether the output is still open.
-fn answer(
-    row: &[u8],
-    r: Request,
-    mem: &[u8],
-    lent: &mut [u8],
-    pair: &mut [u8],
-    out: &mut [u8],
-) -> bool {
-    let one = lend(field(r, LENT, mem), r.whole, lent);
-    let two = lend(field(r, PAIR, mem), false, pair);
-    let a = table::answer(word(row, 1), r, mem, one, two);
-    let end = put_answer(word(row, 3), a, one, two, out);
+fn answer(row: &[u8], r: Request, mem: &[u8], lent: &mut [u8], out: &mut Line) -> bool {
+    let buffer = lend(r, mem, lent);
+    let a = table::answer(word(row, 1), r, mem, buffer);
+    let end = put_answer(word(row, 3), a, buffer, out);
     io::write_all(STDOUT_FILENO, part(out, 0, end))
 }
 
 // Answers a line, with `?` where it is no request.
-fn one(
-    rows: &[u8],
-    line: &[u8],
-    mem: &mut [u8; 1048576],
-    lent: &mut [u8; 1048576],
-    pair: &mut [u8; 1048576],
-    out: &mut [u8; 2097664],
-) -> bool {
-    let row = table::row(rows, word(line, 0));
+fn one(line: &[u8], mem: &mut Memory, lent: &mut Memory, out: &mut Line) -> bool {
+    let rows = table::rows();
+    let row = table::row(&rows, word(line, 0));
     let r = parse(line, word(row, 2), mem);
     if !r.good {
         return io::write_all(STDOUT_FILENO, b"?\n");
     }
-    answer(row, r, mem, lent, pair, out)
+    answer(row, r, mem, lent, out)
 }
 
 // Answers line after line, until the input ends or the output is shut. A line that was too long, or that the input's end cut off, is answered as an
 // empty one.
-fn serve(
-    rows: &[u8],
-    text: &mut [u8; 262144],
-    mem: &mut [u8; 1048576],
-    lent: &mut [u8; 1048576],
-    pair: &mut [u8; 1048576],
-    out: &mut [u8; 2097664],
-) {
+fn serve(text: &mut Text, mem: &mut Memory, lent: &mut Memory, out: &mut Line) {
     let mut p = input::start();
     let mut turns = u64::MAX;
     while 0 < turns {
         p = input::next(text, p);
         if p.whole {
-            if !one(rows, input::line(text, p), mem, lent, pair, out) {
+            if !one(input::line(text, p), mem, lent, out) {
                 return;
             }
         }
@@ -99,11 +76,9 @@ fn serve(
 }
 
 fn main() {
-    let rows = table::rows();
-    let mut text = text_buffer();
+    let mut text = text();
     let mut mem = memory();
     let mut lent = memory();
-    let mut pair = memory();
-    let mut out = answer_buffer();
-    serve(&rows, &mut text, &mut mem, &mut lent, &mut pair, &mut out);
+    let mut out = line();
+    serve(&mut text, &mut mem, &mut lent, &mut out);
 }

@@ -7,41 +7,65 @@ use crate::value::NOWHERE;
 use crate::value::decimal;
 use crate::value::put;
 
-// Where the two buffers that a request may lend stand among its arguments.
-pub(crate) const LENT: usize = 16;
+// Where the bytes of a request's arguments lie, and a buffer that it may lend.
+pub(crate) const MEMORY: usize = 1048576;
 
-pub(crate) const PAIR: usize = 17;
+pub(crate) type Memory = [u8; MEMORY];
 
-// Argument i is the number from[i], or the bytes of the memory from from[i] up to to[i]. The memory is in use up to `used`. Where no argument is lent the
-// first lent buffer is free for an answer, `whole`. Not good where the line is no request.
+pub(crate) fn memory() -> Memory {
+    [0; MEMORY]
+}
+
+// Where the buffer that a request may lend stands among its bytes.
+pub(crate) const LENT: usize = 10;
+
+// Number i is number[i], in the order of the words, and string i the bytes of the memory from from[i] up to to[i]; so far there are `numbers` and
+// `strings` of them, and the memory is in use up to `used`. It `lends` where one of the words is a lent buffer. Not good where the line is no request.
 pub(crate) struct Request {
     pub(crate) good: bool,
-    pub(crate) whole: bool,
+    pub(crate) lends: bool,
     pub(crate) used: usize,
-    pub(crate) from: [usize; 18],
-    pub(crate) to: [usize; 18],
+    pub(crate) numbers: usize,
+    pub(crate) strings: usize,
+    pub(crate) number: [u64; 8],
+    pub(crate) from: [usize; 11],
+    pub(crate) to: [usize; 11],
 }
 
 fn empty(good: bool) -> Request {
     Request {
         good,
-        whole: true,
+        lends: false,
         used: 0,
-        from: [0; 18],
-        to: [0; 18],
+        numbers: 0,
+        strings: 0,
+        number: [0; 8],
+        from: [0; 11],
+        to: [0; 11],
     }
 }
 
-// A request with one argument more, after which the memory is in use up to `used`.
-fn with(given: Request, k: usize, from: usize, to: usize, used: usize) -> Request {
-    if k >= 18 {
+// A request with one number more.
+fn with_number(given: Request, n: u64) -> Request {
+    let i = given.numbers;
+    if i >= 8 {
         return empty(false);
     }
     let mut r = given;
-    r.from[k] = from;
-    r.to[k] = to;
+    r.number[i] = n;
+    r.numbers = i + 1;
+    r
+}
+
+// A request with one string more, after which the memory is in use up to `used`.
+fn with_string(given: Request, i: usize, used: usize) -> Request {
+    if i >= 11 {
+        return empty(false);
+    }
+    let mut r = given;
+    r.from[i] = given.used;
+    r.to[i] = used;
     r.used = used;
-    r.whole = r.whole && k != LENT;
     r
 }
 
@@ -54,26 +78,17 @@ fn most(letter: u8) -> u64 {
     }
 }
 
-// Whether a letter takes n bytes: a hash (h, r), a log id with what follows it (i), up to 256 words (w), or any.
+// Whether a letter takes n bytes: a hash (h), a log id with what follows it (i), up to 256 words (w), or any.
 fn fits(letter: u8, n: usize) -> bool {
     match letter {
-        b'h' | b'r' => n == 32,
+        b'h' => n == 32,
         b'i' => n == 127,
         b'w' => n <= 1024 && n % 4 == 0,
         _ => true,
     }
 }
 
-// Where the bytes of a letter stand: those that are lent (l, i and p, r, w) after all others, these in the order of the words.
-fn place(letter: u8, i: usize) -> usize {
-    match letter {
-        b'l' | b'i' => LENT,
-        b'p' | b'r' | b'w' => PAIR,
-        _ => i,
-    }
-}
-
-fn take_number(r: Request, letter: u8, i: usize, word: &[u8]) -> Request {
+fn take_number(r: Request, letter: u8, word: &[u8]) -> Request {
     let n = decimal(word);
     if !n.good {
         return empty(false);
@@ -81,10 +96,24 @@ fn take_number(r: Request, letter: u8, i: usize, word: &[u8]) -> Request {
     if n.value > most(letter) {
         return empty(false);
     }
-    with(r, i, n.value as usize, 0, r.used)
+    with_number(r, n.value)
 }
 
-fn take_bytes(r: Request, letter: u8, i: usize, word: &[u8], mem: &mut [u8]) -> Request {
+// The bytes that are lent (l) stand after all others.
+fn take_string(given: Request, letter: u8, used: usize) -> Request {
+    let i = given.strings;
+    let mut r = given;
+    if letter == b'l' {
+        r.lends = true;
+        return with_string(r, LENT, used);
+    }
+    if i < LENT {
+        r.strings = i + 1;
+    }
+    with_string(r, i, used)
+}
+
+fn take_bytes(r: Request, letter: u8, word: &[u8], mem: &mut Memory) -> Request {
     let end = put(word, mem, r.used);
     if end == NOWHERE {
         return empty(false);
@@ -92,19 +121,19 @@ fn take_bytes(r: Request, letter: u8, i: usize, word: &[u8], mem: &mut [u8]) -> 
     if !fits(letter, left(r.used, end)) {
         return empty(false);
     }
-    with(r, place(letter, i), r.used, end, end)
+    take_string(r, letter, end)
 }
 
 // A request with the argument that a letter takes from a word.
-fn take(r: Request, letter: u8, i: usize, word: &[u8], mem: &mut [u8]) -> Request {
+fn take(r: Request, letter: u8, word: &[u8], mem: &mut Memory) -> Request {
     match letter {
-        b'n' | b's' | b'f' => take_number(r, letter, i, word),
-        _ => take_bytes(r, letter, i, word, mem),
+        b'n' | b's' | b'f' => take_number(r, letter, word),
+        _ => take_bytes(r, letter, word, mem),
     }
 }
 
 // The arguments of a line, which must be as the letters say. Every entry takes one at least.
-pub(crate) fn parse(line: &[u8], letters: &[u8], mem: &mut [u8]) -> Request {
+pub(crate) fn parse(line: &[u8], letters: &[u8], mem: &mut Memory) -> Request {
     let n = letters.len();
     let mut r = empty(0 < n && spaces(line) == n);
     let mut i = 0;
@@ -112,45 +141,66 @@ pub(crate) fn parse(line: &[u8], letters: &[u8], mem: &mut [u8]) -> Request {
         if !r.good {
             return r;
         }
-        r = take(r, letters[i], i, word(line, i + 1), mem);
+        r = take(r, letters[i], word(line, i + 1), mem);
         i += 1;
     }
     r
 }
 
-// The bytes of argument i.
+// The bytes of string i.
 pub(crate) fn field(r: Request, i: usize, mem: &[u8]) -> &[u8] {
-    if i >= 18 {
+    if i >= 11 {
         return &mem[..0];
     }
     part(mem, r.from[i], r.to[i])
 }
 
-pub(crate) fn number(r: Request, i: usize) -> u64 {
-    if i >= 18 {
-        return 0;
+// The numbers of a request, in the order of its words.
+pub(crate) struct Numbers {
+    pub(crate) a: u64,
+    pub(crate) b: u64,
+    pub(crate) c: u64,
+    pub(crate) d: u64,
+    pub(crate) e: u64,
+    pub(crate) f: u64,
+    pub(crate) g: u64,
+}
+
+pub(crate) fn numbers_of(r: Request) -> Numbers {
+    let n = r.number;
+    Numbers {
+        a: n[0],
+        b: n[1],
+        c: n[2],
+        d: n[3],
+        e: n[4],
+        f: n[5],
+        g: n[6],
     }
-    r.from[i] as u64
 }
 
 // A number of 16 bits.
-pub(crate) fn short(r: Request, i: usize) -> u16 {
-    let n = number(r, i);
+pub(crate) fn short(n: u64) -> u16 {
     if n > 65535 {
         return 0;
     }
     n as u16
 }
 
-// Bytes in a buffer that is lent: they alone, or the whole buffer.
-pub(crate) fn lend<'a>(s: &[u8], whole: bool, lent: &'a mut [u8]) -> &'a mut [u8] {
-    if whole {
-        return lent;
-    }
+// Bytes in a buffer, they alone.
+pub(crate) fn lend_to<'a>(s: &[u8], lent: &'a mut [u8]) -> &'a mut [u8] {
     let n = s.len();
     if n > lent.len() {
         return &mut lent[..0];
     }
     bytes::copy(s, lent);
     &mut lent[..n]
+}
+
+// The buffer that a request lends; where it lends none, the whole, for what it answers.
+pub(crate) fn lend<'a>(r: Request, mem: &[u8], lent: &'a mut [u8]) -> &'a mut [u8] {
+    if r.lends {
+        return lend_to(field(r, LENT, mem), lent);
+    }
+    lent
 }

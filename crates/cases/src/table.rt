@@ -1,6 +1,6 @@
 // The entries: what each is called, takes and answers, and who answers it.
 use crate::answers::Answer;
-use crate::answers::words;
+use crate::answers::one;
 use crate::auditing;
 use crate::carrying;
 use crate::cut::part;
@@ -8,32 +8,35 @@ use crate::cut::seek;
 use crate::cut::word;
 use crate::hashing;
 use crate::items;
+use crate::request::Numbers;
 use crate::request::Request;
+use crate::request::field;
+use crate::request::numbers_of;
 use crate::trees;
 
 // A line for each entry: its name; a letter for its crate and one for the entry; a letter for each argument (request.rt); a letter for each word of its
 // answer (answers.rt).
 pub(crate) fn rows() -> [u8; 441] {
-    *b"digest ha b nc\n\
-leaf hb b nc\n\
-node hc hh c\n\
+    *b"digest ha b nm\n\
+leaf hb b nm\n\
+node hc hh m\n\
 digest_into hd bl nl\n\
 leaf_into he bl nl\n\
-step hf hbw ncp\n\
+step hf hbw nmp\n\
 root ta bl nnl\n\
 path tb bnl nnl\n\
 consistency_path tc bnl nnl\n\
 inclusion td bnnbb n\n\
 consistency te nnbbb n\n\
-carry ca bnnbbnbblp nnnlp\n\
-compare cb nnbbbbbp nnp\n\
+carry ca bnnbbnbbbb nnnmp\n\
+compare cb nnbbbbbl nnl\n\
 read ia b nnnnnnnnnnnn\n\
 write ib snbbbbbnnnbbnsbl nnnl\n\
-newer ic bb c\n\
+newer ic bb m\n\
 path_into id bnnl nnnl\n\
-offer aa finnnrbnnbb nnlnnnp\n\
-page ab finnnrnbb nnlnnnp\n\
-dispute ac bnbnbbbbp nnp\n\
+offer aa finnnhbnnbb nnmnnnp\n\
+page ab finnnhnbb nnmnnnp\n\
+dispute ac bnbnbbbbl nnl\n\
 append ad lnnbb nnl\n"
 }
 
@@ -56,23 +59,43 @@ pub(crate) fn row<'a>(rows: &'a [u8], name: &[u8]) -> &'a [u8] {
     &rows[..0]
 }
 
-// What an entry answers, by its two letters.
-pub(crate) fn answer(
-    code: &[u8],
+// What an entry of the upper crates answers, of its first three strings and the others.
+fn upper<'a>(
+    layer: u8,
+    entry: u8,
+    n: Numbers,
+    a: &'a [u8],
+    b: &'a [u8],
+    c: &'a [u8],
     r: Request,
-    mem: &[u8],
+    mem: &'a [u8],
     lent: &mut [u8],
-    pair: &mut [u8],
 ) -> Answer {
-    if code.len() != 2 {
-        return words(0, 0, 0, 0, 0, 0);
+    let d = field(r, 3, mem);
+    let e = field(r, 4, mem);
+    let f = field(r, 5, mem);
+    let g = field(r, 6, mem);
+    match layer {
+        b'c' => carrying::answer(entry, n, a, b, c, d, e, f, g, lent),
+        b'i' => items::answer(entry, n, a, b, c, d, e, f, g, field(r, 7, mem), lent),
+        _ => auditing::answer(entry, n, a, b, c, d, e, f, lent),
     }
+}
+
+// What an entry answers, by its two letters.
+pub(crate) fn answer(code: &[u8], r: Request, mem: &[u8], lent: &mut [u8]) -> Answer {
+    if code.len() != 2 {
+        return one(0);
+    }
+    let n = numbers_of(r);
+    let a = field(r, 0, mem);
+    let b = field(r, 1, mem);
+    let c = field(r, 2, mem);
+    let layer = code[0];
     let entry = code[1];
-    match code[0] {
-        b'h' => hashing::answer(entry, r, mem, lent, pair),
-        b't' => trees::answer(entry, r, mem, lent),
-        b'c' => carrying::answer(entry, r, mem, lent, pair),
-        b'i' => items::answer(entry, r, mem, lent),
-        _ => auditing::answer(entry, r, mem, lent, pair),
+    match layer {
+        b'h' => hashing::answer(entry, a, b, c, lent),
+        b't' => trees::answer(entry, n, a, b, c, lent),
+        _ => upper(layer, entry, n, a, b, c, r, mem, lent),
     }
 }

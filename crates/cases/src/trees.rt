@@ -1,9 +1,8 @@
 // What the entries of the crate tree call.
 use crate::answers::Answer;
+use crate::answers::one;
 use crate::answers::words;
-use crate::request::Request;
-use crate::request::field;
-use crate::request::number;
+use crate::request::Numbers;
 use tree::build::Built;
 use tree::build::consistency_path;
 use tree::build::inclusion_path;
@@ -12,38 +11,36 @@ use tree::verdict::inclusion_verdict;
 
 fn built(b: Built) -> Answer {
     match b {
-        Built::Wrote(count) => words(0, count as u64, 0, 0, 0, 0),
-        Built::Refused(number) => words(number as u64, 0, 0, 0, 0, 0),
+        Built::Wrote(count) => words(0, count as u64, 0),
+        Built::Refused(number) => one(number),
     }
 }
 
-fn inclusion(r: Request, mem: &[u8]) -> u32 {
-    inclusion_verdict(
-        field(r, 0, mem),
-        number(r, 1),
-        number(r, 2),
-        field(r, 3, mem),
-        field(r, 4, mem),
-    )
+fn root(leaves: &[u8], lent: &mut [u8]) -> Answer {
+    built(tree::build::root(leaves, lent))
 }
 
-fn consistency(r: Request, mem: &[u8]) -> u32 {
-    consistency_verdict(
-        number(r, 0),
-        number(r, 1),
-        field(r, 2, mem),
-        field(r, 3, mem),
-        field(r, 4, mem),
-    )
+fn path(leaves: &[u8], n: Numbers, lent: &mut [u8]) -> Answer {
+    built(inclusion_path(leaves, n.a, lent))
 }
 
-pub(crate) fn answer(entry: u8, r: Request, mem: &[u8], lent: &mut [u8]) -> Answer {
-    let leaves = field(r, 0, mem);
+fn subproof(leaves: &[u8], n: Numbers, lent: &mut [u8]) -> Answer {
+    built(consistency_path(leaves, n.a, lent))
+}
+
+pub(crate) fn answer(
+    entry: u8,
+    n: Numbers,
+    a: &[u8],
+    b: &[u8],
+    c: &[u8],
+    lent: &mut [u8],
+) -> Answer {
     match entry {
-        b'a' => built(tree::build::root(leaves, lent)),
-        b'b' => built(inclusion_path(leaves, number(r, 1), lent)),
-        b'c' => built(consistency_path(leaves, number(r, 1), lent)),
-        b'd' => words(inclusion(r, mem) as u64, 0, 0, 0, 0, 0),
-        _ => words(consistency(r, mem) as u64, 0, 0, 0, 0, 0),
+        b'a' => root(a, lent),
+        b'b' => path(a, n, lent),
+        b'c' => subproof(a, n, lent),
+        b'd' => one(inclusion_verdict(a, n.a, n.b, b, c)),
+        _ => one(consistency_verdict(n.a, n.b, a, b, c)),
     }
 }

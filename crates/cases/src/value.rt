@@ -2,6 +2,8 @@
 ghost use Prim.Native.Nat.{_≤_};
 use crate::cut::part;
 use crate::cut::seek;
+use crate::request::MEMORY;
+use crate::request::Memory;
 
 // No place of a memory.
 pub(crate) const NOWHERE: usize = usize::MAX;
@@ -68,30 +70,40 @@ pub(crate) fn decimal(word: &[u8]) -> Number {
     x
 }
 
-// The byte of two hex digits, or 256.
-fn pair(a: u8, b: u8) -> u16
+// The digit at a place, or 16.
+fn digit_at(s: &[u8], i: usize) -> u8
+    ensures { λ r. ⌜ r ≤ 16 ⌝ }
+{
+    if i >= s.len() {
+        return 16;
+    }
+    digit(s[i])
+}
+
+// The byte of two hex digits from a place on, or 256.
+fn pair(s: &[u8], i: usize) -> u16
     ensures { λ r. ⌜ r ≤ 256 ⌝ }
 {
-    let x = digit(a);
-    let y = digit(b);
-    if x > 15 {
+    if i == usize::MAX {
         return 256;
     }
-    if y > 15 {
+    let x = digit_at(s, i);
+    let y = digit_at(s, i + 1);
+    if x > 15 || y > 15 {
         return 256;
     }
     x as u16 * 16 + y as u16
 }
 
 // Puts the byte b at a place of the memory, n times over, and answers the place after it.
-fn repeat(n: u64, b: u16, mem: &mut [u8], at: usize) -> usize {
+fn repeat(n: u64, b: u16, mem: &mut Memory, at: usize) -> usize {
     if b > 255 {
         return NOWHERE;
     }
     let mut p = at;
     let mut left = n;
     while 0 < left {
-        if p >= mem.len() {
+        if p >= MEMORY {
             return NOWHERE;
         }
         mem[p] = b as u8;
@@ -102,21 +114,21 @@ fn repeat(n: u64, b: u16, mem: &mut [u8], at: usize) -> usize {
 }
 
 // Bytes in hex.
-fn hex(digits: &[u8], mem: &mut [u8], at: usize) -> usize {
+fn hex(digits: &[u8], mem: &mut Memory, at: usize) -> usize {
     if digits.len() % 2 != 0 {
         return NOWHERE;
     }
     let mut p = at;
     let mut i = 0;
     while i < digits.len() / 2 {
-        p = repeat(1, pair(digits[2 * i], digits[2 * i + 1]), mem, p);
+        p = repeat(1, pair(digits, 2 * i), mem, p);
         i += 1;
     }
     p
 }
 
 // A count, a star and a byte.
-fn repeated(word: &[u8], mem: &mut [u8], at: usize) -> usize {
+fn repeated(word: &[u8], mem: &mut Memory, at: usize) -> usize {
     let star = seek(word, 0, word.len(), b'*');
     let n = decimal(part(word, 0, star));
     if !n.good {
@@ -125,11 +137,11 @@ fn repeated(word: &[u8], mem: &mut [u8], at: usize) -> usize {
     if word.len() - star != 3 {
         return NOWHERE;
     }
-    repeat(n.value, pair(word[star + 1], word[star + 2]), mem, at)
+    repeat(n.value, pair(word, star + 1), mem, at)
 }
 
 // Puts the bytes that a word says at a place of the memory, and answers the place after them; or nowhere.
-pub(crate) fn put(word: &[u8], mem: &mut [u8], at: usize) -> usize {
+pub(crate) fn put(word: &[u8], mem: &mut Memory, at: usize) -> usize {
     if word.len() == 0 {
         return NOWHERE;
     }
