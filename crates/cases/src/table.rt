@@ -59,7 +59,26 @@ pub(crate) fn row<'a>(rows: &'a [u8], name: &[u8]) -> &'a [u8] {
     &rows[..0]
 }
 
-// What an entry of the upper crates answers, of its first three strings and the others.
+// What an entry answers, by its two letters. Each crate's part is given the request's numbers and as many of its strings as its entries take: a, b, c and
+// so on, in the order of the words.
+pub(crate) fn answer(code: &[u8], r: Request, mem: &[u8], lent: &mut [u8]) -> Answer {
+    if code.len() != 2 {
+        return one(0);
+    }
+    let n = numbers_of(r);
+    let a = field(r, 0, mem);
+    let b = field(r, 1, mem);
+    let c = field(r, 2, mem);
+    let layer = code[0];
+    let entry = code[1];
+    match layer {
+        b'h' => hashing::answer(entry, a, b, c, lent),
+        b't' => trees::answer(entry, n, a, b, c, lent),
+        _ => upper(layer, entry, n, a, b, c, r, mem, lent),
+    }
+}
+
+// The same for the crates whose entries take more than three strings.
 fn upper<'a>(
     layer: u8,
     entry: u8,
@@ -79,23 +98,5 @@ fn upper<'a>(
         b'c' => carrying::answer(entry, n, a, b, c, d, e, f, g, lent),
         b'i' => items::answer(entry, n, a, b, c, d, e, f, g, field(r, 7, mem), lent),
         _ => auditing::answer(entry, n, a, b, c, d, e, f, lent),
-    }
-}
-
-// What an entry answers, by its two letters.
-pub(crate) fn answer(code: &[u8], r: Request, mem: &[u8], lent: &mut [u8]) -> Answer {
-    if code.len() != 2 {
-        return one(0);
-    }
-    let n = numbers_of(r);
-    let a = field(r, 0, mem);
-    let b = field(r, 1, mem);
-    let c = field(r, 2, mem);
-    let layer = code[0];
-    let entry = code[1];
-    match layer {
-        b'h' => hashing::answer(entry, a, b, c, lent),
-        b't' => trees::answer(entry, n, a, b, c, lent),
-        _ => upper(layer, entry, n, a, b, c, r, mem, lent),
     }
 }
