@@ -2,6 +2,7 @@
 pub mod Splitting
 pub mod Rfc
 pub mod Counting
+pub mod Digits
 pub mod Joining
 pub mod Answering
 pub mod Yielding

@@ -1,120 +1,134 @@
--- `tree::count::subproof_count` meets its contract. The invariant: what is counted and the count of what is left make the whole count.
--- Assumes nothing.
-use mathlib.Core.Path.{_≡_, sym, ap, _∙_}
+-- `tree::count::subproof_count` meets its contract, by the laws of the counts and the digits. Assumes nothing.
+use mathlib.Core.Path.{_≡_, refl, sym, ap, _∙_}
 use mathlib.Core.Logic.{⊎-elim}
-use mathlib.Core.Bool.{Bool, false, cond}
-use Prim.Native.Nat.{ℕ, _+_, _-_, _<_, _≤_}
+use mathlib.Core.Bool.{Bool, true, false, cond, _&&_}
+use Prim.Native.Nat.{ℕ, _+_, _-_, _<_, _≤_, _^_}
 use native.Mathlib.Omega.{arith}
-use borrow.Author.Tests.{ltb-true, ltb-false}
+use borrow.Author.Needs.{needs}
+use lib.Count.{ones, trailingZeros, ones-le, trailing-le}
+use lib.Dec.{eqb}
 use Rattle.tree.specs.Split.{split}
-use Rattle.tree.specs.Count.{subproofCount}
-use Rattle.tree.proofs.Splitting.{split-ends}
-use Rattle.tree.proofs.Counting.{sub-all, sub-few, down-low, down-high}
+use Rattle.tree.specs.Count.{inclusionCount, subproofCount}
+use Rattle.tree.proofs.Counting.{sub-all, sub-few, sub-some, inclusion-most}
+use Rattle.tree.proofs.Digits.{sub-none, sub-past, sub-power, sub-other, trailing-few, count-last}
 use Rattle.tree.proofs.count.subproof_count.Statement.{statement}
 use Rattle.tree.proofs.count.subproof_count.Tie as tie
 
--- m of n is left, and c nodes are counted, of `all`; c cannot reach the largest number
-abbrev Left : ℕ → ℕ → ℕ → ℕ → Bool → ℕ → Type 0
-Left second all m n own c = (c + n ≤ second) × (c ≤ second - 1) × (c + subproofCount m n own ≡ all)
+few : (b : Bool) (own : ℕ) → own ≡ cond b 0 1 → own ≤ 1
+few true own e = omega arith
+few false own e = omega arith
 
-module _ (second all m n : ℕ) (own : Bool) (c k : ℕ) (more : 1 < n) (other : m ≡ n → ⊥) (cut : k ≡ split n) (left : Left second all m n own c) where
-  low : m ≤ k → Left second all m k own (c + 1)
-  low h =
-      let s = split-ends n more in
-      let q = down-low m n k own more other cut h in
-      (omega arith, omega arith, omega arith)
+module _ (first second way own : ℕ) (known : Bool) (fits : second < 2 ^ 64) (root : own ≡ cond known 0 1) where
+  none : first ≡ 0 → 1 < second → way ≡ inclusionCount 0 second → (way + own < 2 ^ 64) × (way + own ≡ subproofCount first second known)
+  none z more e =
+      let m = inclusion-most 64 0 second (omega arith) (omega arith) in
+      let l = few known own root in
+      let s = sub-none known second (omega arith) in
+      let f = ap (λ (x : ℕ). subproofCount x second known) z in
+      (omega arith, omega arith)
 
-  high : k < m → Left second all (m - k) (n - k) false (c + 1)
-  high h =
-      let s = split-ends n more in
-      let q = down-high m n k own more other cut h in
-      (omega arith, omega arith, omega arith)
+  power : 0 < first → first < second → way ≡ inclusionCount (first - 1) second → ones first ≡ 1 →
+      (way - trailingZeros 64 first + own < 2 ^ 64) × (way - trailingZeros 64 first + own ≡ subproofCount first second known)
+  power some less e o =
+      let m = inclusion-most 64 (first - 1) second (omega arith) (omega arith) in
+      let l = few known own root in
+      let t = trailing-few 64 second first (omega arith) some less in
+      let s = sub-power 64 second first (omega arith) some less known o in
+      (omega arith, omega arith)
 
--- the last part, where nothing is left to split
-ends : (second all m n : ℕ) (own : Bool) (c : ℕ) → subproofCount m n own ≡ cond own 0 1 → Left second all m n own c → c + cond own 0 1 ≡ all
-ends second all m n own c e left = ap (λ (i : ℕ). c + i) (sym e) ∙ left .2
+returns : tie.Need-returns
+returns c = let a = c .before .before .args in c .own-root .ensures ∙ sym (sub-all (a .first) (a .second) (a .known) (omega arith))
 
-abbrev Inv-loop : tie.InvT-loop
-Inv-loop first second known m₀ n₀ own₀ c₀ m n own c = Left second (subproofCount first second known) m n own c
+returns-2 : tie.Need-returns-2
+returns-2 c = let a = c .before .before .before .args in c .own-root2 .ensures ∙ sym (sub-few (a .first) (a .second) (a .known) (omega arith))
 
-abbrev μ-loop : tie.MeasureT-loop
-μ-loop first second known m₀ n₀ own₀ c₀ m n own c = n
+add-result : tie.Need-add-result
+add-result c =
+    let a = c .before .before .before .before .before .args in
+    let w = c .before .inclusion-count in
+    let o = c .own-root3 in
+    omega (arith, none (a .first) (a .second) (w .result) (o .result) (a .known) (omega arith) (o .ensures) (omega arith) (omega arith) (w .ensures) .0)
 
-loop-holds : tie.Need-loop-holds Inv-loop μ-loop
-loop-holds c = (omega arith, omega arith, omega arith)
+returns-3 : tie.Need-returns-3
+returns-3 c =
+    let a = c .before .before .before .before .before .args in
+    let w = c .before .inclusion-count in
+    let o = c .own-root3 in
+    none (a .first) (a .second) (w .result) (o .result) (a .known) (omega arith) (o .ensures) (omega arith) (omega arith) (w .ensures) .1
 
-cut-requires : tie.Need-cut-requires Inv-loop μ-loop
-cut-requires c κs = omega arith
+add-result-2 : tie.Need-add-result-2
+add-result-2 c =
+    let a = c .before .before .before .before .before .args in
+    let e = count-last (a .second) (omega arith) (a .first) (omega arith) in
+    let l = ones-le 64 (a .second - 1) (omega arith) in
+    omega arith
 
-sub-m : tie.Need-sub-m Inv-loop μ-loop
-sub-m c = omega arith
+returns-4 : tie.Need-returns-4
+returns-4 c =
+    let a = c .before .before .before .before .before .args in
+    let e = sub-past (a .second) (a .first) (a .known) (omega arith) (omega arith) in
+    omega arith
 
-sub-n : tie.Need-sub-n Inv-loop μ-loop
-sub-n c = let more = ltb-true 1 (c .before .before .before .before .loop .n) (c .before .before .if1 .taken) in omega arith
+cast-way : tie.Need-cast-way
+cast-way c = omega (arith, trailing-le 64 (c .before .before .before .before .before .args .first))
 
-add-c : tie.Need-add-c Inv-loop μ-loop
-add-c c = omega arith
+sub-way : tie.Need-sub-way
+sub-way c =
+    let a = c .before .before .before .before .before .args in
+    let t = trailing-few 64 (a .second) (a .first) (omega arith) (omega arith) (omega arith) in
+    let e = c .inclusion-count3 .ensures in
+    omega arith
 
-loop-less : tie.Need-loop-less Inv-loop μ-loop
-loop-less c =
-    let n = c .before .before .before .before .loop .n in
-    let more = ltb-true 1 n (c .before .before .if1 .taken) in
-    ⊎-elim (λ w. omega arith) (λ w. omega arith) (c .if2 .came)
+add-result-3 : tie.Need-add-result-3
+add-result-3 c =
+    let a = c .before .before .before .before .before .before .before .args in
+    let w = c .before .before .inclusion-count3 in
+    let o = c .own-root4 in
+    omega (arith, power (a .first) (a .second) (w .result) (o .result) (a .known) (omega arith) (o .ensures) (omega arith) (omega arith) (w .ensures) (c .before .if5 .taken) .0)
 
-loop-again : tie.Need-loop-again Inv-loop μ-loop
-loop-again c =
-    let at-loop = c .before .before .before .before in
-    let a = at-loop .before .args in
-    let all = subproofCount (a .first) (a .second) (a .known) in
-    let m = at-loop .loop .m in
-    let n = at-loop .loop .n in
-    let b = at-loop .loop .own in
-    let k = c .before .cut .result in
-    let more = ltb-true 1 n (c .before .before .if1 .taken) in
-    let other = c .before .before .before .loop-test .taken in
-    let e = c .before .cut .ensures .0 in
-    ⊎-elim (λ w. rw (w .1, w .2, w .3) (low (a .second) all m n b (at-loop .loop .c) k more other e (at-loop .loop .inv) (w .0 .taken)))
-    (λ w. rw (w .1, w .2, w .3) (high (a .second) all m n b (at-loop .loop .c) k more other e (at-loop .loop .inv) (w .0 .left)))
-    (c .if2 .came)
+returns-5 : tie.Need-returns-5
+returns-5 c =
+    let a = c .before .before .before .before .before .before .before .args in
+    let w = c .before .before .inclusion-count3 in
+    let o = c .own-root4 in
+    power (a .first) (a .second) (w .result) (o .result) (a .known) (omega arith) (o .ensures) (omega arith) (omega arith) (w .ensures) (c .before .if5 .taken) .1
 
-returns : tie.Need-returns Inv-loop μ-loop
-returns c =
-    let at-loop = c .before .before in
-    let a = at-loop .before .args in
-    let m = at-loop .loop .m in
-    let n = at-loop .loop .n in
-    let b = at-loop .loop .own in
-    let done = ⊎-elim (λ w. sub-few m n b (ltb-false 1 n (w .1 .left))) (λ w. sub-all m n b (w .left)) (c .before .loop-test .came) in
-    let e = ends (a .second) (subproofCount (a .first) (a .second) (a .known)) m n b (at-loop .loop .c) done (at-loop .loop .inv) in
-    omega (arith, rw (c .if3 .taken) at e)
+add-result-4 : tie.Need-add-result-4
+add-result-4 c =
+    let a = c .before .before .before .before .before .before .args in
+    let e = c .before .inclusion-count3 .ensures in
+    let m = inclusion-most 64 (a .first - 1) (a .second) (omega arith) (omega arith) in
+    omega arith
 
-add-result : tie.Need-add-result Inv-loop μ-loop
-add-result c = omega arith
-
-returns-2 : tie.Need-returns-2 Inv-loop μ-loop
-returns-2 c =
-    let at-loop = c .before .before in
-    let a = at-loop .before .args in
-    let m = at-loop .loop .m in
-    let n = at-loop .loop .n in
-    let b = at-loop .loop .own in
-    let done = ⊎-elim (λ w. sub-few m n b (ltb-false 1 n (w .1 .left))) (λ w. sub-all m n b (w .left)) (c .before .loop-test .came) in
-    let e = ends (a .second) (subproofCount (a .first) (a .second) (a .known)) m n b (at-loop .loop .c) done (at-loop .loop .inv) in
-    omega (arith, rw (c .if3 .left) at e)
+returns-6 : tie.Need-returns-6
+returns-6 c =
+    let a = c .before .before .before .before .before .before .args in
+    let e = c .before .inclusion-count3 .ensures in
+    let t = trailing-few 64 (a .second) (a .first) (omega arith) (omega arith) (omega arith) in
+    let s = sub-other 64 (a .second) (a .first) (omega arith) (omega arith) (omega arith) (a .known) (c .if5 .left) in
+    omega arith
 
 pub subproof-count-spec : {M : Type 1} → statement M
 subproof-count-spec =
     tie.close
     (tie.spec
-    Inv-loop
-    μ-loop
-    loop-holds
-    cut-requires
-    sub-m
-    sub-n
-    add-c
-    loop-less
-    loop-again
+    (λ c κs. search needs)
     returns
+    (λ c κs. search needs)
+    returns-2
+    (λ c κs. search needs)
+    (λ c κs. search needs)
     add-result
-    returns-2)
+    returns-3
+    (λ c κs. search needs)
+    add-result-2
+    returns-4
+    (λ c. search needs)
+    (λ c κs. search needs)
+    cast-way
+    sub-way
+    (λ c κs. search needs)
+    add-result-3
+    returns-5
+    add-result-4
+    returns-6)
