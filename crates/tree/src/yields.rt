@@ -1,4 +1,5 @@
-// The roots that a path yields: the definition's splits are followed, with the given nodes in the place of the other parts' roots.
+// The roots that a path yields: the definition's splits are followed, with the given nodes in the place of the other parts' roots. A node is read behind the
+// call for the part below it, so that no copy of it is kept over the call.
 use super::count::inclusion_count;
 use super::count::subproof_count;
 use super::nodes::node_at;
@@ -28,12 +29,13 @@ pub(crate) fn inclusion_root(
     }
     let k = cut(size);
     let c = count - 1;
-    let top = node_at(path, c);
     if place < k {
         let low = inclusion_root(leaf, place, k, path, c);
+        let top = node_at(path, c);
         return hash::node(low, top);
     }
     let high = inclusion_root(leaf, place - k, size - k, path, c);
+    let top = node_at(path, c);
     hash::node(top, high)
 }
 
@@ -83,11 +85,11 @@ pub(crate) fn consistency_roots(
     }
     let k = cut(n);
     let c = count - 1;
-    let top = node_at(path, c);
     if m <= k {
         let low = consistency_roots(first, m, k, known, path, c);
         let old = low.old;
         let new = low.new;
+        let top = node_at(path, c);
         return Roots {
             old,
             new: hash::node(new, top),
@@ -96,6 +98,7 @@ pub(crate) fn consistency_roots(
     let high = consistency_roots(first, m - k, n - k, false, path, c);
     let old = high.old;
     let new = high.new;
+    let top = node_at(path, c);
     Roots {
         old: hash::node(top, old),
         new: hash::node(top, new),

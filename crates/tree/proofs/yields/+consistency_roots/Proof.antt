@@ -78,7 +78,7 @@ consistency-roots-node-at-requires-2 t c κs = omega arith
 
 consistency-roots-consistency-roots-requires : (t : ℕ) → consistency-roots-lts.Need-consistency-roots-requires (calls t) (consistency-roots-at t) consistency-roots.Post
 consistency-roots-consistency-roots-requires t c κs =
-    let at = c .before .before in
+    let at = c .before in
     let a = entry t at .args in
     let lt = part t at in
     let less = sub-low (a .m) (a .n) (at .cut .result) (a .known) (old t at) lt (at .cut .ensures .0) (c .if3 .taken) in
@@ -92,7 +92,7 @@ consistency-roots-returns-3 t c =
     let at = c .before .before .before .before .before .before in
     let a = entry t at .args in
     both-low sha256 (a .m) (a .n) (at .cut .result) (a .first .bytes) (a .count) (now (a .path)) (a .known) (old t at) (some t at) (part t at) (at .cut .ensures .0)
-    (c .before .before .before .before .if3 .taken) (c .before .before .before .consistency-roots .ensures) (c .before .before .before .before .before .node-at2 .ensures ∙ hash-in (a .count - 1) (now (a .path)) (omega (arith, some t at))) (c .node .ensures)
+    (c .before .before .before .before .before .if3 .taken) (c .before .before .before .before .consistency-roots .ensures) (c .before .node-at2 .ensures ∙ hash-in (a .count - 1) (now (a .path)) (omega (arith, some t at))) (c .node .ensures)
 
 consistency-roots-sub-consistency-roots : (t : ℕ) → consistency-roots-lts.Need-sub-consistency-roots (calls t) (consistency-roots-at t) consistency-roots.Post
 consistency-roots-sub-consistency-roots t c = omega arith
@@ -102,11 +102,14 @@ consistency-roots-sub-consistency-roots-2 t c = omega arith
 
 consistency-roots-consistency-roots-requires-2 : (t : ℕ) → consistency-roots-lts.Need-consistency-roots-requires-2 (calls t) (consistency-roots-at t) consistency-roots.Post
 consistency-roots-consistency-roots-requires-2 t c κs =
-    let at = c .before .before in
+    let at = c .before in
     let a = entry t at .args in
     let lt = part t at in
     let less = sub-high (a .m) (a .n) (at .cut .result) (a .known) (old t at) lt (at .cut .ensures .0) (c .if3 .left) in
     (omega arith, (omega arith, omega arith, omega arith, omega arith))
+
+consistency-roots-node-at-requires-3 : (t : ℕ) → consistency-roots-lts.Need-node-at-requires-3 (calls t) (consistency-roots-at t) consistency-roots.Post
+consistency-roots-node-at-requires-3 t c κs = omega arith
 
 consistency-roots-node-requires-2 : (t : ℕ) → consistency-roots-lts.Need-node-requires-2 (calls t) (consistency-roots-at t) consistency-roots.Post
 consistency-roots-node-requires-2 t c κs = omega arith
@@ -119,7 +122,7 @@ consistency-roots-returns-4 t c =
     let at = c .before .before .before .before .before .before .before in
     let a = entry t at .args in
     both-high sha256 (a .m) (a .n) (at .cut .result) (a .first .bytes) (a .count) (now (a .path)) (a .known) (old t at) (some t at) (part t at) (at .cut .ensures .0)
-    (c .before .before .before .before .before .if3 .left) (c .before .before .before .before .consistency-roots2 .ensures) (c .before .before .before .before .before .before .node-at2 .ensures ∙ hash-in (a .count - 1) (now (a .path)) (omega (arith, some t at))) (c .before .node2 .ensures) (c .node3 .ensures)
+    (c .before .before .before .before .before .before .if3 .left) (c .before .before .before .before .before .consistency-roots2 .ensures) (c .before .before .node-at3 .ensures ∙ hash-in (a .count - 1) (now (a .path)) (omega (arith, some t at))) (c .before .node2 .ensures) (c .node3 .ensures)
 
 pub +consistency-roots-spec : {M : Type 1} → statement M
 +consistency-roots-spec = close μ-consistency-roots λ t. consistency-roots-lts.spec (calls t)
@@ -130,13 +133,14 @@ pub +consistency-roots-spec : {M : Type 1} → statement M
     (consistency-roots-returns-2 t)
     (consistency-roots-cut-requires t)
     (consistency-roots-sub-c t)
-    (consistency-roots-node-at-requires-2 t)
     (consistency-roots-consistency-roots-requires t)
+    (consistency-roots-node-at-requires-2 t)
     (consistency-roots-node-requires t)
     (consistency-roots-returns-3 t)
     (consistency-roots-sub-consistency-roots t)
     (consistency-roots-sub-consistency-roots-2 t)
     (consistency-roots-consistency-roots-requires-2 t)
+    (consistency-roots-node-at-requires-3 t)
     (consistency-roots-node-requires-2 t)
     (consistency-roots-node-requires-3 t)
     (consistency-roots-returns-4 t)

@@ -28,7 +28,7 @@ abbrev inclusion-root-below : ℕ → In 1 inclusion-root-kinds.ps
 inclusion-root-below t = and 1 inclusion-root-kinds.ps (falls 1 inclusion-root-kinds.ps _<_ μ-inclusion-root t) inclusion-root.Pre
 
 abbrev calls : ℕ → inclusion-root-lts.Claims
-calls t = (cut-reads.Asked, cut-reads.Learnt, node-at-reads.Asked, node-at-reads.Learnt, inclusion-root-below t, inclusion-root.Post, node-reads.Asked, node-reads.Learnt)
+calls t = (cut-reads.Asked, cut-reads.Learnt, inclusion-root-below t, inclusion-root.Post, node-at-reads.Asked, node-at-reads.Learnt, node-reads.Asked, node-reads.Learnt)
 
 -- what is known where the size is split: there are two parts, and the path has a node
 module _ (t : ℕ) (c : inclusion-root-lts.After-cut (calls t) (inclusion-root-at t) inclusion-root.Post) where
@@ -57,7 +57,7 @@ inclusion-root-node-at-requires t c κs = omega arith
 
 inclusion-root-inclusion-root-requires : (t : ℕ) → inclusion-root-lts.Need-inclusion-root-requires (calls t) (inclusion-root-at t) inclusion-root.Post
 inclusion-root-inclusion-root-requires t c κs =
-    let at = c .before .before in
+    let at = c .before in
     let a = entry t at .args in
     let less = count-low (a .place) (a .size) (at .cut .result) (more t at) (at .cut .ensures .0) (c .if2 .taken) in
     (omega arith, (omega arith, omega arith))
@@ -69,17 +69,20 @@ inclusion-root-returns-2 : (t : ℕ) → inclusion-root-lts.Need-returns-2 (call
 inclusion-root-returns-2 t c =
     let at = c .before .before .before .before in
     let a = entry t at .args in
-    included-low sha256 (a .place) (a .size) (at .cut .result) (a .leaf .bytes) (a .count) (now (a .path)) (some t at) (more t at) (at .cut .ensures .0) (c .node .ensures) (c .before .before .if2 .taken) (c .before .inclusion-root .ensures) (c .before .before .before .node-at .ensures ∙ hash-in (a .count - 1) (now (a .path)) (omega (arith, some t at)))
+    included-low sha256 (a .place) (a .size) (at .cut .result) (a .leaf .bytes) (a .count) (now (a .path)) (some t at) (more t at) (at .cut .ensures .0) (c .node .ensures) (c .before .before .before .if2 .taken) (c .before .before .inclusion-root .ensures) (c .before .node-at .ensures ∙ hash-in (a .count - 1) (now (a .path)) (omega (arith, some t at)))
 
 inclusion-root-sub-inclusion-root : (t : ℕ) → inclusion-root-lts.Need-sub-inclusion-root (calls t) (inclusion-root-at t) inclusion-root.Post
 inclusion-root-sub-inclusion-root t c = omega arith
 
 inclusion-root-inclusion-root-requires-2 : (t : ℕ) → inclusion-root-lts.Need-inclusion-root-requires-2 (calls t) (inclusion-root-at t) inclusion-root.Post
 inclusion-root-inclusion-root-requires-2 t c κs =
-    let at = c .before .before in
+    let at = c .before in
     let a = entry t at .args in
     let less = count-high (a .place) (a .size) (at .cut .result) (more t at) (at .cut .ensures .0) (c .if2 .left) in
     (omega arith, (omega arith, omega arith))
+
+inclusion-root-node-at-requires-2 : (t : ℕ) → inclusion-root-lts.Need-node-at-requires-2 (calls t) (inclusion-root-at t) inclusion-root.Post
+inclusion-root-node-at-requires-2 t c κs = omega arith
 
 inclusion-root-node-requires-2 : (t : ℕ) → inclusion-root-lts.Need-node-requires-2 (calls t) (inclusion-root-at t) inclusion-root.Post
 inclusion-root-node-requires-2 t c κs = omega arith
@@ -88,7 +91,7 @@ inclusion-root-returns-3 : (t : ℕ) → inclusion-root-lts.Need-returns-3 (call
 inclusion-root-returns-3 t c =
     let at = c .before .before .before .before in
     let a = entry t at .args in
-    included-high sha256 (a .place) (a .size) (at .cut .result) (a .leaf .bytes) (a .count) (now (a .path)) (some t at) (more t at) (at .cut .ensures .0) (c .node2 .ensures) (c .before .before .if2 .left) (c .before .before .before .node-at .ensures ∙ hash-in (a .count - 1) (now (a .path)) (omega (arith, some t at))) (c .before .inclusion-root2 .ensures)
+    included-high sha256 (a .place) (a .size) (at .cut .result) (a .leaf .bytes) (a .count) (now (a .path)) (some t at) (more t at) (at .cut .ensures .0) (c .node2 .ensures) (c .before .before .before .if2 .left) (c .before .node-at2 .ensures ∙ hash-in (a .count - 1) (now (a .path)) (omega (arith, some t at))) (c .before .before .inclusion-root2 .ensures)
 
 pub +inclusion-root-spec : {M : Type 1} → statement M
 +inclusion-root-spec = close μ-inclusion-root λ t. inclusion-root-lts.spec (calls t)
@@ -97,11 +100,12 @@ pub +inclusion-root-spec : {M : Type 1} → statement M
     (inclusion-root-returns t)
     (inclusion-root-cut-requires t)
     (inclusion-root-sub-c t)
-    (inclusion-root-node-at-requires t)
     (inclusion-root-inclusion-root-requires t)
+    (inclusion-root-node-at-requires t)
     (inclusion-root-node-requires t)
     (inclusion-root-returns-2 t)
     (inclusion-root-sub-inclusion-root t)
     (inclusion-root-inclusion-root-requires-2 t)
+    (inclusion-root-node-at-requires-2 t)
     (inclusion-root-node-requires-2 t)
     (inclusion-root-returns-3 t)
