@@ -1,5 +1,6 @@
 //! Builds plain.c with gcc -O3 and links it. The proved library comes with the
-//! crate `link`.
+//! crate `link`. MTA_BEFORE names the folder of an earlier libmta.a: its verdicts
+//! are linked too, under other names.
 
 use std::path::PathBuf;
 use std::process::Command;
@@ -17,6 +18,20 @@ fn main() {
     println!("cargo:rustc-link-search=native={}", out.display());
     println!("cargo:rustc-link-lib=static=plain");
     println!("cargo:rerun-if-changed=plain.c");
+
+    println!("cargo:rustc-check-cfg=cfg(before)");
+    println!("cargo:rerun-if-env-changed=MTA_BEFORE");
+    if let Some(folder) = std::env::var_os("MTA_BEFORE") {
+        let earlier = PathBuf::from(folder).join("libmta.a");
+        let mut rename = Command::new("objcopy");
+        for verdict in ["inclusion", "consistency"] {
+            rename.arg(format!("--redefine-sym=mta_{verdict}=before_{verdict}")).arg(format!("--keep-global-symbol=before_{verdict}"));
+        }
+        run(rename.arg(&earlier).arg(out.join("libbefore.a")));
+        println!("cargo:rustc-link-lib=static=before");
+        println!("cargo:rustc-cfg=before");
+        println!("cargo:rerun-if-changed={}", earlier.display());
+    }
 }
 
 fn run(command: &mut Command) {

@@ -1,8 +1,9 @@
 //! The verdicts, the root and the items, each beside one other way of the same
 //! work: ours and the other in turn.
 
+use crate::library::OURS;
 use crate::{best, median};
-use mta::{mta_carry, mta_compare, mta_consistency, mta_consistency_item, mta_inclusion, mta_item, mta_node, mta_root};
+use mta::{mta_carry, mta_compare, mta_consistency_item, mta_inclusion, mta_item, mta_node, mta_root};
 use reference::item::{self, Fields, LONGEST_PATH};
 use reference::proofs::{made_consistency, made_inclusion, Proof};
 use reference::random::Random;
@@ -12,9 +13,9 @@ use std::hint::black_box;
 use std::time::Instant;
 
 /// Many short turns, so that some of each are undisturbed; fewer of the root.
-const TURNS: usize = 10_001;
+pub const TURNS: usize = 10_001;
 const TURNS_OF_ROOT: usize = 101;
-const TURN_NANOSECONDS: f64 = 20_000.0;
+pub const TURN_NANOSECONDS: f64 = 20_000.0;
 
 enum Target {
     /// Our time divided by the other's.
@@ -40,7 +41,7 @@ fn node(left: &Hash, right: &Hash) -> Hash {
 }
 
 /// So many node hashes, each of the one before.
-fn bare_nodes(count: usize) {
+pub fn bare_nodes(count: usize) {
     let (mut hash, right) = ([7; 32], [8; 32]);
     for _ in 0..count {
         hash = node(black_box(&hash), black_box(&right));
@@ -48,23 +49,10 @@ fn bare_nodes(count: usize) {
     black_box(hash);
 }
 
-fn accepted(proof: &Proof) {
-    let ([one, two], [first, second], path) = (proof.numbers, &proof.hashes, &proof.path);
-    let (a, b, c, length) = (first.as_ptr(), second.as_ptr(), path.as_ptr(), path.len());
-    let number = unsafe {
-        if proof.is_inclusion {
-            mta_inclusion(a, 32, one, two, b, 32, c, length)
-        } else {
-            mta_consistency(one, two, a, 32, b, 32, c, length)
-        }
-    };
-    assert_eq!(number, 0);
-}
-
 /// The node hashes that the definition needs: one for each node of an inclusion
 /// path; for consistency one at each split, and one more where the first size
 /// reaches into the second part.
-fn needed(proof: &Proof) -> usize {
+pub fn needed(proof: &Proof) -> usize {
     if proof.is_inclusion {
         return proof.path.len() / 32;
     }
@@ -80,33 +68,35 @@ fn needed(proof: &Proof) -> usize {
     count
 }
 
-fn verdict(name: &str, proof: Proof) -> Pair {
-    let hashes = needed(&proof);
-    Pair {
-        name: format!("{name}, {} nodes", proof.path.len() / 32),
-        other_name: format!("{hashes} node hashes"),
-        ours: Box::new(move || accepted(black_box(&proof))),
-        other: Box::new(move || bare_nodes(hashes)),
-        target: Target::AtMost(1.10),
-    }
-}
+/// Ones and zeros in turn.
+pub const ALTERNATING: u64 = 0xaaaa_aaaa;
 
-/// Sizes whose paths have 10, 20 and 32 nodes.
-fn verdicts(random: &mut Random) -> Vec<Pair> {
-    const ALTERNATING: u64 = 0xaaaa_aaaa;
+/// Proofs at sizes whose paths have 10, 20 and 32 nodes.
+pub fn verdicts(random: &mut Random) -> Vec<(String, Proof)> {
     let mut all = Vec::new();
     for nodes in [10, 20, 32] {
         let size = 1 << nodes;
-        all.push(verdict("inclusion", made_inclusion(ALTERNATING % size, size, random)));
+        all.push(("inclusion", made_inclusion(ALTERNATING % size, size, random)));
     }
     for nodes in [10, 20, 32] {
         let size = 1 << nodes;
-        all.push(verdict("consistency", made_consistency(ALTERNATING % size, size, random)));
+        all.push(("consistency", made_consistency(ALTERNATING % size, size, random)));
     }
     for nodes in [10, 20, 32] {
-        all.push(verdict("consistency from 1", made_consistency(1, 1 << nodes, random)));
+        all.push(("consistency from 1", made_consistency(1, 1 << nodes, random)));
     }
-    all
+    all.into_iter().map(|(name, proof)| (format!("{name}, {} nodes", proof.path.len() / 32), proof)).collect()
+}
+
+fn judged(name: String, proof: Proof) -> Pair {
+    let (hashes, most) = (needed(&proof), if proof.is_inclusion { 1.05 } else { 1.08 });
+    Pair {
+        name,
+        other_name: format!("{hashes} node hashes"),
+        ours: Box::new(move || assert_eq!(OURS.judge(black_box(&proof)), 0)),
+        other: Box::new(move || bare_nodes(hashes)),
+        target: Target::AtMost(most),
+    }
 }
 
 /// A log of equal leaves, so that full subtrees of one size have one root: an
@@ -303,7 +293,7 @@ fn items(random: &mut Random) -> Vec<Pair> {
 }
 
 /// Nanoseconds of one of so many times.
-fn time(job: &mut dyn FnMut(), times: usize) -> f64 {
+pub fn time(job: &mut dyn FnMut(), times: usize) -> f64 {
     let start = Instant::now();
     for _ in 0..times {
         job();
@@ -313,7 +303,7 @@ fn time(job: &mut dyn FnMut(), times: usize) -> f64 {
 
 pub fn print_table() {
     let random = &mut Random::new(7);
-    let mut pairs = verdicts(random);
+    let mut pairs: Vec<Pair> = verdicts(random).into_iter().map(|(name, proof)| judged(name, proof)).collect();
     pairs.extend(forward(random));
     pairs.push(root(random));
     pairs.extend(items(random));
