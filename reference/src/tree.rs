@@ -123,6 +123,10 @@ mod tests {
         assert_eq!(split(u64::MAX), 1 << 63);
         assert_eq!(split(1 << 63), 1 << 62);
         assert_eq!(split((1 << 63) + 1), 1 << 63);
+        for bit in 1..64 {
+            let power = 1u64 << bit;
+            assert_eq!([split(power), split(power + 1), split(power + (power - 1))], [power / 2, power, power]);
+        }
     }
 
     /// Eight inputs and the roots of their first ones, from the test data of the

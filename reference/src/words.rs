@@ -33,6 +33,14 @@ impl Word {
         }
     }
 
+    pub fn as_flag(&self) -> Option<bool> {
+        match self {
+            Word::Number(0) => Some(false),
+            Word::Number(1) => Some(true),
+            _ => None,
+        }
+    }
+
     pub fn as_bytes(&self) -> Option<&[u8]> {
         match self {
             Word::Bytes(value) => Some(value),

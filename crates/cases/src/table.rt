@@ -16,7 +16,7 @@ use crate::trees;
 
 // A line for each entry: its name; a letter for its crate and one for the entry; a letter for each argument (request.rt); a letter for each word of its
 // answer (answers.rt).
-pub(crate) fn rows() -> [u8; 441] {
+pub(crate) fn rows() -> [u8; 489] {
     *b"digest ha b nm\n\
 leaf hb b nm\n\
 node hc hh m\n\
@@ -28,6 +28,8 @@ path tb bnl nnl\n\
 consistency_path tc bnl nnl\n\
 inclusion td bnnbb n\n\
 consistency te nnbbb n\n\
+inclusion_count tf nn n\n\
+subproof_count tg nnf n\n\
 carry ca bnnbbnbbbb nnnmp\n\
 compare cb nnbbbbbl nnl\n\
 read ia b nnnnnnnnnnnn\n\

@@ -6,6 +6,8 @@ use crate::request::Numbers;
 use tree::build::Built;
 use tree::build::consistency_path;
 use tree::build::inclusion_path;
+use tree::count::inclusion_count;
+use tree::count::subproof_count;
 use tree::verdict::consistency_verdict;
 use tree::verdict::inclusion_verdict;
 
@@ -28,6 +30,14 @@ fn subproof(leaves: &[u8], n: Numbers, lent: &mut [u8]) -> Answer {
     built(consistency_path(leaves, n.a, lent))
 }
 
+fn inclusion_nodes(n: Numbers) -> Answer {
+    words(inclusion_count(n.a, n.b) as u64, 0, 0)
+}
+
+fn subproof_nodes(n: Numbers) -> Answer {
+    words(subproof_count(n.a, n.b, n.c == 1) as u64, 0, 0)
+}
+
 pub(crate) fn answer(
     entry: u8,
     n: Numbers,
@@ -41,6 +51,8 @@ pub(crate) fn answer(
         b'b' => path(a, n, lent),
         b'c' => subproof(a, n, lent),
         b'd' => one(inclusion_verdict(a, n.a, n.b, b, c)),
-        _ => one(consistency_verdict(n.a, n.b, a, b, c)),
+        b'e' => one(consistency_verdict(n.a, n.b, a, b, c)),
+        b'f' => inclusion_nodes(n),
+        _ => subproof_nodes(n),
     }
 }

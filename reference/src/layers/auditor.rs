@@ -28,11 +28,7 @@ pub const LAYER: Layer = Layer {
 fn read_record(words: &[Word]) -> Option<Stored> {
     let [held, id, id_length, timestamp, size, root] = words else { return None };
     Some(Stored {
-        held: match held.as_number()? {
-            0 => false,
-            1 => true,
-            _ => return None,
-        },
+        held: held.as_flag()?,
         id: id.as_bytes()?.try_into().ok()?,
         id_length: id_length.as_number()?,
         timestamp: timestamp.as_number()?,

@@ -1,5 +1,5 @@
 //! The tree: root, inclusion path and consistency path built into lent buffers,
-//! and both verdicts.
+//! both verdicts, and the counts of a path's nodes.
 
 use crate::proofs::{self, damaged, damaged_lengths, damaged_nodes, made_consistency, made_inclusion, List, Proof, LARGE};
 use crate::random::Random;
@@ -7,6 +7,7 @@ use crate::requests::{lines_that_are_no_request, Entry, Layer, Requests};
 use crate::sha256::{digest, node};
 use crate::tree::{self, Hash, MOST_LEAVES};
 use crate::words::{bytes, number, repeated, Word};
+use crate::yields::{CONSISTENCY_COUNTS, INCLUSION_COUNTS};
 use crate::{verdict, yields};
 
 pub const LAYER: Layer = Layer {
@@ -17,6 +18,8 @@ pub const LAYER: Layer = Layer {
         Entry { name: "consistency_path", answer: consistency_path, random: random_consistency_path },
         Entry { name: "inclusion", answer: inclusion, random: random_inclusion },
         Entry { name: "consistency", answer: consistency, random: random_consistency },
+        Entry { name: "inclusion_count", answer: inclusion_count, random: random_numbers },
+        Entry { name: "subproof_count", answer: subproof_count, random: random_subproof_count },
     ],
     lists: None,
     cases,
@@ -73,6 +76,18 @@ fn consistency(words: &[Word]) -> Option<Vec<Word>> {
         path: path.as_bytes()?,
     };
     Some(vec![number(verdict::consistency(digest, &proof))])
+}
+
+fn inclusion_count(words: &[Word]) -> Option<Vec<Word>> {
+    let [place, size] = words else { return None };
+    let count = yields::inclusion_count(place.as_number()?, size.as_number()?);
+    Some(vec![number(count as u64)])
+}
+
+fn subproof_count(words: &[Word]) -> Option<Vec<Word>> {
+    let [first, second, known] = words else { return None };
+    let count = yields::subproof_count(first.as_number()?, second.as_number()?, known.as_flag()?);
+    Some(vec![number(count as u64)])
 }
 
 /// The builders of a path: the entry, its smallest number, and its count of nodes.
@@ -170,6 +185,8 @@ fn cases(requests: &mut Requests) {
         }
     }
 
+    counted(requests);
+
     lines_that_are_no_request(requests, "root");
     for line in [
         "root",
@@ -194,6 +211,19 @@ fn cases(requests: &mut Requests) {
         "consistency 1 1 32*01 32*01 x x",
         "consistency 32*01 1 1 32*01 x",
         "consistency 1 1 1 32*01 x",
+        "inclusion_count",
+        "inclusion_count 1",
+        "inclusion_count 1 2 0",
+        "inclusion_count x01 2",
+        "inclusion_count 1 x02",
+        "inclusion_count 1 18446744073709551616",
+        "subproof_count 1 2",
+        "subproof_count 1 2 1 1",
+        "subproof_count 1 2 2",
+        "subproof_count 1 2 18446744073709551615",
+        "subproof_count 1 2 x01",
+        "subproof_count 1 2 1*01",
+        "subproof_count 18446744073709551616 2 1",
         "digest x",
     ] {
         requests.line(line.as_bytes());
@@ -254,6 +284,23 @@ fn refused_builds(requests: &mut Requests) {
                 requests.ask("consistency_path", &[repeated(length, 3), number(at), repeated(lent, 4)]);
             }
         }
+    }
+}
+
+/// Counts by hand, and those of numbers in and out of the papers' range.
+fn counted(requests: &mut Requests) {
+    for (place, size, _) in INCLUSION_COUNTS {
+        requests.ask("inclusion_count", &[number(place), number(size)]);
+    }
+    for (first, second, _) in CONSISTENCY_COUNTS {
+        requests.ask("subproof_count", &[number(first), number(second), number(1)]);
+        requests.ask("subproof_count", &[number(first), number(second), number(0)]);
+    }
+    let numbers = [0, 1, 2, 7, u64::MAX];
+    for (one, two) in numbers.iter().flat_map(|one| numbers.map(|two| (*one, two))) {
+        requests.ask("inclusion_count", &[number(one), number(two)]);
+        requests.ask("subproof_count", &[number(one), number(two), number(1)]);
+        requests.ask("subproof_count", &[number(one), number(two), number(0)]);
     }
 }
 
@@ -369,6 +416,31 @@ fn random_consistency(random: &mut Random) -> Vec<Word> {
     proofs::random_consistency(random).words()
 }
 
+/// A number of any length in bits, or one next to a power of two.
+fn any_number(random: &mut Random) -> u64 {
+    if random.one_in(2) {
+        return random.draw() >> random.below(64);
+    }
+    (1u64 << random.below(64)).wrapping_add(random.below(5)).wrapping_sub(2)
+}
+
+/// A place or first size, and a size: half of the time in range, else next to each other or any two.
+fn random_numbers(random: &mut Random) -> Vec<Word> {
+    let size = any_number(random);
+    let at = match random.below(4) {
+        0 => any_number(random),
+        1 => size.wrapping_add(random.below(5)).wrapping_sub(2),
+        _ => random.below(size.max(1)),
+    };
+    vec![number(at), number(size)]
+}
+
+fn random_subproof_count(random: &mut Random) -> Vec<Word> {
+    let mut words = random_numbers(random);
+    words.push(number(random.below(2)));
+    words
+}
+
 #[cfg(test)]
 mod tests {
     use super::*;
@@ -389,6 +461,10 @@ mod tests {
         assert_eq!(ask("consistency_path 64*05 2 1*07"), "0 0 x07\n");
         assert_eq!(ask("inclusion 32*05 0 1 32*05 x"), "0\n");
         assert_eq!(ask("consistency 4 4 32*05 32*06 x"), "8\n");
+        assert_eq!(ask("inclusion_count 6 7"), "2\n");
+        assert_eq!(ask("subproof_count 4 7 1"), "1\n");
+        assert_eq!(ask("subproof_count 4 7 0"), "2\n");
+        assert_eq!(ask("subproof_count 4 7 2"), "?\n");
     }
 
     #[test]

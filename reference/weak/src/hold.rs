@@ -367,10 +367,7 @@ impl<'a> Hold<'a> {
                 self.same("yielded root", expected, tried(|| code.yielded_root(leaf, place, size, path)), (leaf, place, size, path));
             }
         }
-        if number != 6 && 0 < size && place < size {
-            let expected = yields::inclusion_count(place, size);
-            self.same("inclusion count", expected, tried(|| code.inclusion_count(place, size)), (place, size));
-        }
+        self.counts(place, size);
     }
 
     pub fn consistency(&mut self, first: u64, second: u64, old: &[u8], new: &[u8], path: &[u8]) {
@@ -387,9 +384,16 @@ impl<'a> Hold<'a> {
                 self.same("yielded roots", expected, found, (old, first, second, path));
             }
         }
-        if number != 6 && 0 < first && first <= second {
-            let expected = yields::consistency_count(first, second);
-            self.same("subproof count", expected, tried(|| code.subproof_count(first, second, true)), (first, second));
+        self.counts(first, second);
+    }
+
+    /// The counts of any two numbers, in the papers' range and out of it.
+    fn counts(&mut self, m: u64, n: u64) {
+        let code = self.code;
+        self.same("inclusion count", yields::inclusion_count(m, n), tried(|| code.inclusion_count(m, n)), (m, n));
+        for known in [true, false] {
+            let expected = yields::subproof_count(m, n, known);
+            self.same("subproof count", expected, tried(|| code.subproof_count(m, n, known)), (m, n, known));
         }
     }
 
@@ -449,6 +453,10 @@ impl<'a> Hold<'a> {
         self.same("copy", after, found, (joined, start, length, out, to));
         let n = (random.draw() >> random.below(63)).max(2);
         self.same("cut", tree::split(n), tried(|| code.cut(n)), n);
+        for other in [random.draw() >> random.below(64), n - 1, n, 0] {
+            self.counts(other, n);
+            self.counts(n, other);
+        }
     }
 
     // The auditor.
