@@ -3,6 +3,7 @@
 
 pub mod auditor;
 pub mod carry;
+pub mod counts;
 pub mod item;
 pub mod proofs;
 pub mod random;
