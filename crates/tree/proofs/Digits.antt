@@ -8,13 +8,13 @@ use native.Mathlib.Nat.{pow-zero, pow-succ', add-mul-div-right, add-comm, div-eq
 use lib.Pow.{pow-pos, pow-mono, pow-add, shr-lt}
 use lib.Bits.{bitXor, xor-block, xor-lt, xor-add-and, and-le-l}
 use lib.Arith.{bin-ind}
-use lib.Count.{ones, leadingZeros, trailingZeros, ones-step, ones-cat, leading-top, under}
+use lib.Count.{ones, leadingZeros, trailingZeros, ones-step, ones-cat, ones-le, leading-top, under}
 use lib.Dec.{eqb}
 use borrow.Author.Tests.{eq-eqb, ne-eqb}
 use Rattle.tree.specs.Split.{split}
 use Rattle.tree.specs.Count.{inclusionCount, subproofCount}
 use Rattle.tree.proofs.Splitting.{lt-or-ge, split-ends, split-power, split-unique, by-splits}
-use Rattle.tree.proofs.Counting.{count-few, count-low, count-high, sub-few, sub-all, sub-some, down-low, down-high}
+use Rattle.tree.proofs.Counting.{count-few, count-low, count-high, inclusion-most, sub-few, sub-all, sub-some, down-low, down-high}
 
 power-below : (i j : ℕ) → 2 ^ i < 2 ^ j → i < j
 power-below i j h = lt-of-not-le (λ g. lt-irrefl (2 ^ i) (lt-of-lt-of-le h (pow-mono g)))
@@ -180,19 +180,24 @@ count-inner =
     omega arith)
     (lt-or-ge m k))
 
--- the same by the leading zeros of v + 1 digits
-abbrev top : ℕ → ℕ → ℕ → ℕ
-top v m n = v - leadingZeros (suc v) (bitXor m n)
-
-pub count-zeros : (v n m : ℕ) → suc m < n → n ≤ 2 ^ suc v →
-    (leadingZeros (suc v) (bitXor m (n - 1)) ≤ v) × (top v m (n - 1) + 1 + ones (m / 2 ^ top v m (n - 1)) ≡ inclusionCount m n)
-count-zeros v n m h most =
-    let t = leading-top (suc v) (bitXor m (n - 1)) (xor-some m (n - 1) (omega arith)) (xor-lt (suc v) m (n - 1) (omega arith) (omega arith)) in
+-- the same by the leading zeros of w digits: what is left of the w digits is the length of the difference
+pub count-zeros : (w n m : ℕ) → suc m < n → n ≤ 2 ^ w →
+    (0 < w - leadingZeros w (bitXor m (n - 1))) × ((w - leadingZeros w (bitXor m (n - 1))) + ones (m / 2 ^ (w - leadingZeros w (bitXor m (n - 1)) - 1)) ≡ inclusionCount m n)
+count-zeros w n m h most =
+    let t = leading-top w (bitXor m (n - 1)) (xor-some m (n - 1) (omega arith)) (xor-lt w m (n - 1) (omega arith) (omega arith)) in
     let sum = t .1 in
-    let e : t .0 ≡ top v m (n - 1) = omega arith in
+    let e : t .0 ≡ w - leadingZeros w (bitXor m (n - 1)) - 1 = omega arith in
     let c = count-inner n (omega arith) m (t .0) h (t .2) (t .3) in
     let o = ap (λ (x : ℕ). ones (m / 2 ^ x)) e in
     (omega arith, omega arith)
+
+-- a size of at most 2 ^ w has at most w nodes, wherever the place is
+pub count-most : (w n m : ℕ) → n ≤ 2 ^ w → inclusionCount m n ≤ w
+count-most w zero m h = let e = count-few m 0 (omega arith) in omega arith
+count-most w (suc n) m h =
+    ⊎-elim (λ t. inclusion-most w m (suc n) t h)
+    (λ t. let e = count-last (suc n) (omega arith) m (omega arith) in let l = ones-le w (suc n - 1) (omega arith) in omega arith)
+    (lt-or-ge m (suc n))
 
 -- the consistency path from no leaves, as the definition has it: that of the first place, and the last root where it is not known
 pub sub-none : (b : Bool) (n : ℕ) → 0 < n → subproofCount 0 n b ≡ inclusionCount 0 n + cond b 0 1
