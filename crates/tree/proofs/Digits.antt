@@ -230,12 +230,12 @@ sub-past n m b more h =
     let r = past (n - split n) (omega arith) (m - split n) (omega arith) in
     omega arith
 
--- from m leaves of more: that of the last of them, less the splits within the full part that ends there, and that part's root. The root may be known
--- where the part is all of them: where m is a power of two.
 either : (t : Bool) → cond {A = ℕ} t 1 1 ≡ 1
 either true = refl
 either false = refl
 
+-- from m leaves of more: that of the last of them, less the levels of the full part that ends there, and that part's root, which can be known where the part
+-- is all of them: where m is a power of two
 abbrev SubInner : ℕ → ℕ → Type 0
 SubInner w n = (m : ℕ) (b : Bool) → n ≤ 2 ^ w → 0 < m → m < n →
     subproofCount m n b + trailingZeros w m ≡ inclusionCount (m - 1) n + cond (eqb (ones m) 1) (cond b 0 1) 1

@@ -12,6 +12,7 @@ use Rattle.tree.proofs.Digits.{count-last, count-zeros}
 use Rattle.tree.proofs.count.inclusion_count.Statement.{statement}
 use Rattle.tree.proofs.count.inclusion_count.Tie as tie
 
+-- all sums are small, whatever is counted
 total : (d y k : ℕ) → y < 2 ^ 64 → 64 - d + ones (y / 2 ^ k) ≤ 128
 total d y k h = let l = shr-le y k in let o = ones-le 64 (y / 2 ^ k) (omega arith) in omega arith
 
