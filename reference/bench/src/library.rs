@@ -18,26 +18,8 @@ pub const OURS: Library = Library { inclusion: mta_inclusion, consistency: mta_c
 #[cfg(before)]
 pub fn before() -> Option<Library> {
     extern "C" {
-        fn before_inclusion(
-            leaf: *const u8,
-            leaf_len: usize,
-            place: u64,
-            size: u64,
-            root: *const u8,
-            root_len: usize,
-            path: *const u8,
-            path_len: usize,
-        ) -> u32;
-        fn before_consistency(
-            first: u64,
-            second: u64,
-            root1: *const u8,
-            root1_len: usize,
-            root2: *const u8,
-            root2_len: usize,
-            path: *const u8,
-            path_len: usize,
-        ) -> u32;
+        fn before_inclusion(_: *const u8, _: usize, _: u64, _: u64, _: *const u8, _: usize, _: *const u8, _: usize) -> u32;
+        fn before_consistency(_: u64, _: u64, _: *const u8, _: usize, _: *const u8, _: usize, _: *const u8, _: usize) -> u32;
     }
     Some(Library { inclusion: before_inclusion, consistency: before_consistency })
 }
