@@ -12,7 +12,8 @@ use std::hint::black_box;
 /// The best turns of all jobs, which take turns.
 fn best_of<const COUNT: usize>(mut jobs: [&mut dyn FnMut(); COUNT]) -> [f64; COUNT] {
     let mut all = [(); COUNT].map(|()| Vec::new());
-    let times: Vec<usize> = jobs.iter_mut().map(|job| ((TURN_NANOSECONDS / best(&[0; 3].map(|_| time(*job, 1)))) as usize).max(1)).collect();
+    let times: Vec<usize> =
+        jobs.iter_mut().map(|job| ((TURN_NANOSECONDS / best(&[0; 3].map(|_| time(*job, 1)))) as usize).max(1)).collect();
     for _ in 0..TURNS {
         for (job, (times, all)) in jobs.iter_mut().zip(times.iter().zip(&mut all)) {
             all.push(time(*job, *times));
@@ -37,12 +38,8 @@ fn count_alone(name: &str, proof: &Proof, library: Library) {
     let judge = |library: Library, proof: &Proof| {
         black_box(library.judge(black_box(proof)));
     };
-    let [ours, our_checks, other, other_checks] = best_of([
-        &mut || judge(OURS, &short),
-        &mut || judge(OURS, &past),
-        &mut || judge(library, &short),
-        &mut || judge(library, &past),
-    ]);
+    let [ours, our_checks, other, other_checks] =
+        best_of([&mut || judge(OURS, &short), &mut || judge(OURS, &past), &mut || judge(library, &short), &mut || judge(library, &past)]);
     let (ours, other) = (ours - our_checks, other - other_checks);
     println!("{name:<40}{ours:>12.1}{other:>12.1}{:>14.3}", ours / other);
 }
