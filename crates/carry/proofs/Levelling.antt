@@ -11,17 +11,19 @@ use lib.ListN.{length, take, getD}
 use borrow.Author.Tests.{lt-ltb, le-ltb}
 use Rattle.tree.specs.Split.{split, Shape, one, fork, size, shape}
 use Rattle.tree.specs.Tree.{node}
+use Rattle.tree.specs.Full.{together}
 use Rattle.tree.specs.Yield.{init, last, inclusionRoot, consistencyRootOf, oldRoot}
 use Rattle.tree.specs.Count.{inclusionCountOf}
 use Rattle.tree.proofs.Splitting.{lt-or-ge, split-ends, split-same, shape-fork, by-splits}
 use Rattle.tree.proofs.Rfc.{size-left}
+use Rattle.tree.proofs.Full.{together-more}
 use Rattle.tree.specs.Joined.{nodes}
 use Rattle.tree.proofs.Joining.{same-of}
 use Rattle.tree.proofs.Accepting.{inclusion-accepted, consistency-accepted}
 use Rattle.carry.specs.Strings.{string, Difference, alike, apart, topmost}
 use Rattle.carry.specs.Compare.{differOf, differ}
 use Rattle.carry.specs.Forward.{conflict}
-use Rattle.carry.specs.Levels.{First, Finds, aboveOf, subtreesOf, subtrees, inclusionStringsOf, inclusionStrings, together, togetherStrings, inclusionLevels, consistencyLevels, Levelled}
+use Rattle.carry.specs.Levels.{First, Finds, aboveOf, subtreesOf, subtrees, inclusionStringsOf, inclusionStrings, togetherStrings, inclusionLevels, consistencyLevels, Levelled}
 use Rattle.carry.proofs.Pairing.{same-cases, not-same, differs, top-same, top-apart}
 use Rattle.carry.proofs.Comparing as compare
 use Rattle.carry.proofs.Carrying as carry
@@ -116,11 +118,6 @@ module _ (H : List ℕ → List ℕ) where
 
 module _ (H : List ℕ → List ℕ) where
   -- a first full subtree before others
-  together-more : (r : List ℕ) (l : List (List ℕ)) → 0 < length l → together H (r ∷ l) ≡ node H r (together H l)
-  unfolding together
-  together-more r [] h = absurd (omega arith)
-  together-more r (s ∷ l) h = refl
-
   strings-more : (r : List ℕ) (l : List (List ℕ)) → 0 < length l → togetherStrings H (r ∷ l) ≡ string r (together H l) ∷ togetherStrings H l
   unfolding togetherStrings
   strings-more r [] h = absurd (omega arith)
@@ -129,7 +126,7 @@ module _ (H : List ℕ → List ℕ) where
   together-yields : (s : Shape) (m : ℕ) (b : Bool) (f : List ℕ) (q : List (List ℕ)) → together H (subtreesOf s m b f q) ≡ consistencyRootOf H (λ x y. x) s m b f q
   unfolding together subtreesOf consistencyRootOf
   together-yields one m b f q = refl
-  together-yields (fork x y) m b f q = go (eqb m (size x + size y)) (leb m (size x)) (subtreesOf x m b f (init q)) (last q ∷ subtreesOf y (m - size x) false f (init q)) (together-yields x m b f (init q)) (together-more (last q) (subtreesOf y (m - size x) false f (init q)) (subtrees-some y (m - size x) false f (init q)) ∙ ap (node H (last q)) (together-yields y (m - size x) false f (init q)))
+  together-yields (fork x y) m b f q = go (eqb m (size x + size y)) (leb m (size x)) (subtreesOf x m b f (init q)) (last q ∷ subtreesOf y (m - size x) false f (init q)) (together-yields x m b f (init q)) (together-more H (last q) (subtreesOf y (m - size x) false f (init q)) (subtrees-some y (m - size x) false f (init q)) ∙ ap (node H (last q)) (together-yields y (m - size x) false f (init q)))
     where
       go : (t u : Bool) (a c : List (List ℕ)) {a′ c′ : List ℕ} → together H a ≡ a′ → together H c ≡ c′ → together H (cond t (cond b f (last q) ∷ []) (cond u a c)) ≡ cond t (cond b f (last q)) (cond u a′ c′)
       go true u a c d e = refl

@@ -6,19 +6,22 @@ use mathlib.Core.List.{List, [], _∷_}
 use Prim.Native.Nat.{ℕ, zero, suc, _+_, _-_, _*_, _^_, _≤_, _<_}
 use native.Mathlib.Omega.{arith}
 use native.Mathlib.Nat.{eq-or-lt-of-le, pow-succ'}
-use lib.Count.{ones, ones-cat}
+use lib.Count.{ones}
 use lib.Dec.{leb, eqb}
 use lib.ListN.{length, take, drop, length-take}
 use lib.Pow.{pow-pos}
 use lib.Seq.{take-all, take-take}
 use borrow.Author.Tests.{lt-ltb, le-ltb, eq-eqb, ne-eqb, le-leb, lt-leb}
 use Rattle.tree.specs.Split.{split, Shape, one, fork, size, shape}
-use Rattle.tree.specs.Tree.{rootOf, root, subproof, consistency}
+use Rattle.tree.specs.Tree.{root, subproof, consistency}
+use Rattle.tree.specs.Full.{fullRoots}
 use Rattle.tree.specs.Yield.{init, last}
 use Rattle.tree.specs.Equations.{left, right}
 use Rattle.tree.proofs.Splitting.{lt-or-ge, split-ends, split-power, split-unique, split-same, shape-one, shape-fork, size-shape, by-splits}
-use Rattle.tree.proofs.Rfc.{size-left, size-right, length-left, length-right, init-snoc, last-snoc, root-some, sub-all, sub-low, sub-high, by-parts}
-use Rattle.carry.specs.Levels.{aboveOf, subtreesOf, subtrees, fullRootsOf}
+use Rattle.tree.proofs.Digits.{ones-top, ones-power}
+use Rattle.tree.proofs.Full.{full-power, full-parts}
+use Rattle.tree.proofs.Rfc.{size-left, size-right, length-left, length-right, init-snoc, last-snoc, sub-all, sub-low, sub-high, by-parts}
+use Rattle.carry.specs.Levels.{aboveOf, subtreesOf, subtrees}
 use Rattle.carry.proofs.Honest.{drop-take}
 
 -- of n leaves, m are old: all that follow are later, or all are old and n is a power of two
@@ -103,16 +106,11 @@ subtrees-some (fork x y) m b f q = go (eqb m (size x + size y)) (leb m (size x))
 unfoldable pub Bits : ℕ → Type 0
 Bits n = (m : ℕ) (b : Bool) (f : List ℕ) (q : List (List ℕ)) → 0 < m → Within m n → length (subtreesOf (shape n) m b f q) ≡ ones m
 
-ones-power : (j r : ℕ) → r < 2 ^ j → ones (2 ^ j + r) ≡ 1 + ones r
-unfolding ones
-ones-power j r h = let e : 1 * 2 ^ j + r ≡ 2 ^ j + r = omega arith in ap ones (sym e) ∙ ones-cat j 1 r h
-
 bits-all : (n m : ℕ) (b : Bool) (f : List ℕ) (q : List (List ℕ)) → 0 < m → (m ≡ n) × ((j : ℕ) × (m ≡ 2 ^ j)) → length (subtreesOf (shape n) m b f q) ≡ ones m
 unfolding ones
 bits-all n m b f q z w =
     let p = w .1 .1 in
-    let g : 2 ^ w .1 .0 + 0 ≡ m = omega arith in
-    ap length (subtrees-all m n b f q z (w .0)) ∙ sym (ap ones (sym g) ∙ ones-power (w .1 .0) 0 (pow-pos (w .1 .0)))
+    ap length (subtrees-all m n b f q z (w .0)) ∙ sym (ap ones p ∙ ones-power (w .1 .0))
 
 -- the part that holds the old leaves, where it is the first
 pub narrowed : (m n : ℕ) → m ≤ split n → Within m (split n)
@@ -130,7 +128,7 @@ bits =
     ⊎-elim (λ lt.
     ⊎-elim (λ hi.
     let d : 2 ^ p .0 + (m - split n) ≡ m = omega arith in
-    ap length (subtrees-high m n b f q z lt hi) ∙ (let i = gr (m - split n) false f (init q) (omega arith) (inl (omega arith)) in let o = ones-power (p .0) (m - split n) (omega arith) in let k = ap ones d in omega arith))
+    ap length (subtrees-high m n b f q z lt hi) ∙ (let i = gr (m - split n) false f (init q) (omega arith) (inl (omega arith)) in let o = ones-top (p .0) (m - split n) (omega arith) in let k = ap ones d in omega arith))
     (λ l. ap length (subtrees-low m n b f q z lt l) ∙ gl m b f (init q) z (narrowed m n l))
     (lt-or-ge (split n) m))
     (λ e. bits-all n m b f q z e) w)
@@ -138,31 +136,6 @@ bits =
 -- ---- of a list's own consistency path
 
 module _ (H : List ℕ → List ℕ) where
-  root-shape : (n : ℕ) (l : List (List ℕ)) → 0 < n → length l ≡ n → rootOf H (shape n) l ≡ root H l
-  root-shape n l z e = sym (root-some H l (omega arith) ∙ ap (λ (k : ℕ). rootOf H (shape k) l) e)
-
-  -- a power of two of leaves is one full subtree
-  full-whole : (j : ℕ) (l : List (List ℕ)) → length l ≡ 2 ^ j → fullRootsOf H (shape (2 ^ j)) l ≡ root H l ∷ []
-  unfolding fullRootsOf
-  full-whole zero l e =
-      let r : rootOf H one l ≡ root H l = ap (λ (s : Shape). rootOf H s l) (sym shape-one) ∙ root-shape 1 l (omega arith) e in
-      rw (shape-one, r)
-  full-whole (suc j) l e =
-      let h = halves j in
-      let n = 2 ^ suc j in
-      let r : rootOf H (fork (shape (split n)) (shape (n - split n))) l ≡ root H l = ap (λ (s : Shape). rootOf H s l) (sym (shape-fork n (h .0))) ∙ root-shape n l (let m = h .0 in omega arith) e in
-      rw (shape-fork n (h .0), eq-eqb (size (shape (split n))) (size (shape (n - split n))) (h .1)) (ap (λ (x : List ℕ). x ∷ []) r)
-
-  -- else the first part is one, before those of the rest
-  full-parts : (m : ℕ) (l : List (List ℕ)) → 1 < m → m - split m < split m → length l ≡ m → fullRootsOf H (shape m) l ≡ root H (take (split m) l) ∷ fullRootsOf H (shape (m - split m)) (drop (split m) l)
-  unfolding fullRootsOf
-  full-parts m l more lop e =
-      let u = size-left m more in
-      let s = split-ends m more in
-      let k : length (take (split m) l) ≡ split m = simp length-take (omega arith) in
-      rw (shape-fork m more, ne-eqb (size (shape (split m))) (size (shape (m - split m))) (sides m 0 more lop), u)
-      (ap (λ (x : List ℕ). x ∷ fullRootsOf H (shape (m - split m)) (drop (split m) l)) (root-shape (split m) (take (split m) l) (omega arith) k))
-
   -- where all leaves are old, their root is the one that stands for them
   whole-root : (l : List (List ℕ)) (m : ℕ) (b : Bool) (f : List ℕ) → 0 < m → m ≡ length l → (b ≡ true → f ≡ root H (take m l)) → cond b f (last (subproof H m l b)) ≡ root H (take m l)
   unfolding last
@@ -170,22 +143,22 @@ module _ (H : List ℕ → List ℕ) where
   whole-root l m false f z e known = ap last (sub-all H m l false z e) ∙ sym (ap (root H) (take-all m l (omega arith)))
 
   Splits : List (List ℕ) → Type 0
-  Splits l = (m : ℕ) (b : Bool) (f : List ℕ) → 0 < m → Within m (length l) → (b ≡ true → f ≡ root H (take m l)) → subtreesOf (shape (length l)) m b f (subproof H m l b) ≡ fullRootsOf H (shape m) (take m l)
+  Splits l = (m : ℕ) (b : Bool) (f : List ℕ) → 0 < m → Within m (length l) → (b ≡ true → f ≡ root H (take m l)) → subtreesOf (shape (length l)) m b f (subproof H m l b) ≡ fullRoots H (take m l)
 
   module _ (l : List (List ℕ)) (m : ℕ) (b : Bool) (f : List ℕ) (z : 0 < m) (known : b ≡ true → f ≡ root H (take m l)) where
-    splits-all : (m ≡ length l) × ((j : ℕ) × (m ≡ 2 ^ j)) → subtreesOf (shape (length l)) m b f (subproof H m l b) ≡ fullRootsOf H (shape m) (take m l)
+    splits-all : (m ≡ length l) × ((j : ℕ) × (m ≡ 2 ^ j)) → subtreesOf (shape (length l)) m b f (subproof H m l b) ≡ fullRoots H (take m l)
     splits-all w =
         let e = w .0 in
         let p = w .1 .1 in
         let k : length (take m l) ≡ 2 ^ w .1 .0 = simp length-take (omega arith) in
         subtrees-all m (length l) b f (subproof H m l b) z e ∙ ap (λ (x : List ℕ). x ∷ []) (whole-root l m b f z e known)
-        ∙ sym (ap (λ (n : ℕ). fullRootsOf H (shape n) (take m l)) p ∙ full-whole (w .1 .0) (take m l) k)
+        ∙ sym (full-power H (w .1 .0) (take m l) k)
 
     module _ (lt : m < length l) where
       more : 1 < length l
       more = omega arith
 
-      splits-low : m ≤ split (length l) → Splits (left l) → subtreesOf (shape (length l)) m b f (subproof H m l b) ≡ fullRootsOf H (shape m) (take m l)
+      splits-low : m ≤ split (length l) → Splits (left l) → subtreesOf (shape (length l)) m b f (subproof H m l b) ≡ fullRoots H (take m l)
       unfolding Splits
       splits-low h g =
           let k = split (length l) in
@@ -195,25 +168,25 @@ module _ (H : List ℕ → List ℕ) where
           subtrees-low m (length l) b f (subproof H m l b) z lt h
           ∙ ap₂ (λ (n : ℕ) (p : List (List ℕ)). subtreesOf (shape n) m b f p) (sym u) q
           ∙ g m b f z (rw u (narrowed m (length l) h)) (λ c. known c ∙ ap (root H) (sym t))
-          ∙ ap (fullRootsOf H (shape m)) t
+          ∙ ap (fullRoots H) t
 
-      splits-high : split (length l) < m → Splits (right l) → subtreesOf (shape (length l)) m b f (subproof H m l b) ≡ fullRootsOf H (shape m) (take m l)
+      splits-high : split (length l) < m → Splits (right l) → subtreesOf (shape (length l)) m b f (subproof H m l b) ≡ fullRoots H (take m l)
       unfolding Splits Within
       splits-high h g =
           let n = length l in
           let k = split n in
           let ends = split-ends n more in
           let v = length-right l more in
-          let e : split m ≡ k = split-same n m more h (omega arith) in
           let q = subproof H (m - k) (right l) false in
           let i : init (subproof H m l b) ≡ q = ap init (sub-high H m l b z lt h) ∙ init-snoc q (root H (left l)) in
           let y : last (subproof H m l b) ≡ root H (left l) = ap last (sub-high H m l b z lt h) ∙ last-snoc q (root H (left l)) in
-          let a : take (split m) (take m l) ≡ left l = ap (λ (j : ℕ). take j (take m l)) e ∙ take-take k m l (omega arith) in
-          let d : drop (split m) (take m l) ≡ take (m - k) (right l) = ap (λ (j : ℕ). drop j (take m l)) e ∙ drop-take k m l in
+          let o : length (take m l) ≡ m = simp length-take (omega arith) in
+          let e : split (length (take m l)) ≡ k = ap split o ∙ split-same n m more h (omega arith) in
+          let a : left (take m l) ≡ left l = ap (λ (j : ℕ). take j (take m l)) e ∙ take-take k m l (omega arith) in
+          let d : right (take m l) ≡ take (m - k) (right l) = ap (λ (j : ℕ). drop j (take m l)) e ∙ drop-take k m l in
           subtrees-high m n b f (subproof H m l b) z lt h
           ∙ ap₂ _∷_ y (ap₂ (λ (j : ℕ) (p : List (List ℕ)). subtreesOf (shape j) (m - k) false f p) (sym v) i ∙ g (m - k) false f (omega arith) (inl (omega arith)) (λ c. absurd (false≢true c)))
-          ∙ sym (full-parts m (take m l) (omega arith) (omega arith) (simp length-take (omega arith))
-          ∙ ap₂ _∷_ (ap (root H) a) (ap₂ (λ (j : ℕ) (p : List (List ℕ)). fullRootsOf H (shape (m - j)) p) e d))
+          ∙ sym (full-parts H (take m l) (omega arith) (omega arith) ∙ ap₂ _∷_ (ap (root H) a) (ap (fullRoots H) d))
 
   splits : (l : List (List ℕ)) → 0 < length l → Splits l
   unfolding Splits Within
@@ -222,6 +195,6 @@ module _ (H : List ℕ → List ℕ) where
       (λ l more gl gr m b f z w known.
       ⊎-elim (λ lt. ⊎-elim (λ h. splits-high l m b f z known lt h gr) (λ h. splits-low l m b f z known lt h gl) (lt-or-ge (split (length l)) m)) (λ e. splits-all l m b f z known e) w)
 
-  pub own : (l : List (List ℕ)) (m : ℕ) → 0 < m → m < length l → subtrees m (length l) (root H (take m l)) (consistency H m l) ≡ fullRootsOf H (shape m) (take m l)
+  pub own : (l : List (List ℕ)) (m : ℕ) → 0 < m → m < length l → subtrees m (length l) (root H (take m l)) (consistency H m l) ≡ fullRoots H (take m l)
   unfolding subtrees consistency Splits Within
   own l m z lt = splits l (omega arith) m true (root H (take m l)) z (inl lt) (λ c. refl)

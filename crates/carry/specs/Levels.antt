@@ -8,9 +8,10 @@ use mathlib.Core.List.{List, [], _∷_}
 use Prim.Native.Nat.{ℕ, suc, _+_, _-_, _≤_, _<_}
 use lib.Count.{ones}
 use lib.Dec.{leb, ltb, eqb}
-use lib.ListN.{length, take, drop, getD}
+use lib.ListN.{length, take, getD}
 use Rattle.tree.specs.Split.{Shape, one, fork, size, shape}
-use Rattle.tree.specs.Tree.{node, rootOf, root, consistency}
+use Rattle.tree.specs.Tree.{root, consistency}
+use Rattle.tree.specs.Full.{fullRoots, together}
 use Rattle.tree.specs.Yield.{init, last, inclusionRootOf, oldRoot}
 use Rattle.tree.specs.Joined.{nodes}
 use Rattle.carry.specs.Strings.{string, Difference, alike, apart}
@@ -59,22 +60,11 @@ module _ (H : List ℕ → List ℕ) where
   unfoldable pub inclusionStrings : ℕ → ℕ → List ℕ → List (List ℕ) → List (List ℕ)
   inclusionStrings m n h p = inclusionStringsOf (shape n) m h p
 
-  -- the root of a tree by the roots of its full subtrees, the largest first, and its strings: each node's first part is a full subtree
-  unfoldable pub together : List (List ℕ) → List ℕ
-  together [] = []
-  together (r ∷ []) = r
-  together (r ∷ (s ∷ l)) = node H r (together (s ∷ l))
-
+  -- a tree's strings by the roots of its full subtrees: each node's first part is a full subtree
   unfoldable pub togetherStrings : List (List ℕ) → List (List ℕ)
   togetherStrings [] = []
   togetherStrings (r ∷ []) = []
-  togetherStrings (r ∷ (s ∷ l)) = string r (together (s ∷ l)) ∷ togetherStrings (s ∷ l)
-
-  -- the roots of the full subtrees of leaf hashes, by their own tree
-  unfoldable pub fullRootsOf : Shape → List (List ℕ) → List (List ℕ)
-  fullRootsOf one l = rootOf H one l ∷ []
-  fullRootsOf (fork a b) l =
-      cond (eqb (size a) (size b)) (rootOf H (fork a b) l ∷ []) (rootOf H a (take (size a) l) ∷ fullRootsOf b (drop (size a) l))
+  togetherStrings (r ∷ (s ∷ l)) = string r (together H (s ∷ l)) ∷ togetherStrings (s ∷ l)
 
   -- what both proofs rebuild of the old tree of m leaves, from its root down to S
   abbrev pub inclusionLevels : ℕ → ℕ → List ℕ → List (List ℕ) → List (List ℕ)
@@ -105,7 +95,7 @@ module _ (H : List ℕ → List ℕ) where
     pub whole : (m n x : ℕ) (f : List ℕ) (q : List (List ℕ)) → x < m → m < n → length (consistencyLevels m n x f q) ≡ aboveOf (shape m) x
     -- a list's own consistency path splits its first m leaves into their full subtrees
     pub own :
-        (l : List (List ℕ)) (m : ℕ) → 0 < m → m < length l → subtrees m (length l) (root H (take m l)) (consistency H m l) ≡ fullRootsOf (shape m) (take m l)
+        (l : List (List ℕ)) (m : ℕ) → 0 < m → m < length l → subtrees m (length l) (root H (take m l)) (consistency H m l) ≡ fullRoots H (take m l)
     -- one full subtree for each one-bit of m, and together they yield the old root
     pub one-bits : (m n : ℕ) (f : List ℕ) (q : List (List ℕ)) → 0 < m → m < n → length (subtrees m n f q) ≡ ones m
-    pub yields : (m n : ℕ) (f : List ℕ) (q : List (List ℕ)) → 0 < m → m ≤ n → together (subtrees m n f q) ≡ oldRoot H m n true f q
+    pub yields : (m n : ℕ) (f : List ℕ) (q : List (List ℕ)) → 0 < m → m ≤ n → together H (subtrees m n f q) ≡ oldRoot H m n true f q

@@ -28,7 +28,7 @@ first-add (suc n) m s =
     ap (λ (k : ℕ). firstNodes k s) (suc-add n m)
     ∙ ap (λ (x : List (List ℕ)). take 32 s ∷ x) (first-add n m (drop 32 s) ∙ ap (λ (x : List ℕ). firstNodes n (drop 32 s) ++ firstNodes m x) (drop-drop (32 * n) 32 s ∙ ap (λ (k : ℕ). drop k s) e))
 
-first-snoc : (n : ℕ) (s : List ℕ) → firstNodes (suc n) s ≡ firstNodes n s ++ (nodeAt n s ∷ [])
+pub first-snoc : (n : ℕ) (s : List ℕ) → firstNodes (suc n) s ≡ firstNodes n s ++ (nodeAt n s ∷ [])
 unfolding firstNodes
 first-snoc n s = ap (λ (k : ℕ). firstNodes k s) (sym (add-one n)) ∙ first-add n 1 s
 

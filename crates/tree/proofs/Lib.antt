@@ -3,6 +3,8 @@ pub mod Splitting
 pub mod Rfc
 pub mod Counting
 pub mod Digits
+pub mod Halving
+pub mod Full
 pub mod Joining
 pub mod Answering
 pub mod Yielding

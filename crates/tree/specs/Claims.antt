@@ -1,11 +1,12 @@
--- What is claimed of the definitions, over any hash H: proved in proofs/Counting, Building and Accepting, and promised in the source by `claims`.
+-- What is claimed of the definitions, over any hash H: proved in proofs/Counting, Building, Accepting, Halving and Full, and promised in the source by `claims`.
 -- Assumes nothing: these are statements.
 use mathlib.Core.Path.{_≡_}
 use mathlib.Core.Logic.{_↔_}
 use mathlib.Core.Bool.{true}
 use mathlib.Core.List.{List, []}
 use Prim.Native.Nat.{ℕ, _+_, _*_, _/_, _^_, _≤_, _<_}
-use lib.ListN.{length, take}
+use lib.Count.{ones}
+use lib.ListN.{length, take, drop, getD}
 use Rattle.tree.specs.Limits.{largestSize, mostNodes}
 use Rattle.tree.specs.Count.{inclusionCount, consistencyCount}
 use Rattle.tree.specs.Tree.{root, path, consistency}
@@ -13,6 +14,7 @@ use Rattle.tree.specs.Yield.{inclusionRoot, oldRoot, newRoot}
 use Rattle.tree.specs.Joined.{nodes, nodeAt}
 use Rattle.tree.specs.Verdict.{inclusionVerdict, consistencyVerdict}
 use Rattle.tree.specs.Build.{wrote, inclusionBuilt, consistencyBuilt}
+use Rattle.tree.specs.Full.{fullRoots, together, level}
 
 -- of every hash, and of every hash of 32 bytes
 abbrev pub OfEvery : ((List ℕ → List ℕ) → Type 0) → Type 0
@@ -77,3 +79,11 @@ module _ (H : List ℕ → List ℕ) where
     pub sizes :
         (n : ℕ) (claimed₁ claimed₂ path : List ℕ) → 0 < n → n ≤ largestSize → length claimed₁ ≡ 32 →
         (consistencyVerdict H n n claimed₁ claimed₂ path ≡ 0) ↔ ((path ≡ []) × (claimed₁ ≡ claimed₂))
+
+  -- a tree of n leaves is one full subtree for each one-bit of n, and together these yield its root; each level keeps it, and a hash of level i is the root
+  -- of its 2 ^ i leaves, or of those that are left of them
+  pub record FullSubtrees : Type 0 where
+    pub one-bits : (l : List (List ℕ)) → length (fullRoots H l) ≡ ones (length l)
+    pub yields : (l : List (List ℕ)) → together H (fullRoots H l) ≡ root H l
+    pub kept : (i : ℕ) (l : List (List ℕ)) → root H (level H i l) ≡ root H l
+    pub at : (i x : ℕ) (l : List (List ℕ)) → x < length (level H i l) → getD (level H i l) x [] ≡ root H (take (2 ^ i) (drop (2 ^ i * x) l))

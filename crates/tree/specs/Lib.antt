@@ -9,5 +9,6 @@ pub mod Joined
 pub mod Yield
 pub mod Verdict
 pub mod Build
+pub mod Full
 pub mod Equations
 pub mod Claims

@@ -24,7 +24,7 @@ pub enum Built {
 }
 
 // Whether a buffer does not join whole hashes, or too many of them.
-fn bad_leaves(leaves: &[u8]) -> bool
+pub fn bad_leaves(leaves: &[u8]) -> bool
     ensures { λ r. ⌜ r ≡ unfit (now (leaves .entry)) ⌝ }
 {
     if leaves.len() % 32 != 0 {

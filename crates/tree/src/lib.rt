@@ -14,10 +14,10 @@ pub mod yields; // the roots that a path yields
 ghost use Rattle.sha256.specs.Told.{Faithful};
 ghost use Rattle.tree.specs.Build.{building};
 ghost use Rattle.tree.specs.Equations.{Equations};
-ghost use Rattle.tree.specs.Claims.{OfEvery, OfEvery32, Bounds, Counts, Accepts, Equal, Complete};
+ghost use Rattle.tree.specs.Claims.{OfEvery, OfEvery32, Bounds, Counts, Accepts, Equal, Complete, FullSubtrees};
 
-// What is proved beside the contracts, over any hash: the RFC's equations, the counts of nodes, and that the verdicts accept exactly what the definitions
-// yield, all that the builders build among it. It does nothing.
+// What is proved beside the contracts, over any hash: the RFC's equations, the counts of nodes, that the verdicts accept exactly what the definitions
+// yield, all that the builders build among it, and how full subtrees and levels make up a tree. It does nothing.
 pub fn claims()
     ensures equations { λ _. ⌜ OfEvery Equations ⌝ }
     ensures bounds { λ _. ⌜ Bounds ⌝ }
@@ -25,5 +25,6 @@ pub fn claims()
     ensures accepts { λ _. ⌜ OfEvery Accepts ⌝ }
     ensures equal { λ _. ⌜ OfEvery Equal ⌝ }
     ensures complete { λ _. ⌜ OfEvery32 Complete ⌝ }
+    ensures full_subtrees { λ _. ⌜ OfEvery FullSubtrees ⌝ }
     ensures building_loses_nothing { λ _. ⌜ Faithful building ⌝ }
 {}
