@@ -1,0 +1,6 @@
+-- The laws, one subject a file, each from those above it; crates above cite them. The proofs of the functions are in the folders.
+pub mod Stepping
+pub mod Holding
+pub mod Adding
+pub mod OfSha256
+pub mod Calling

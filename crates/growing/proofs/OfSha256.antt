@@ -1,0 +1,26 @@
+-- The hash that the contracts name. Assumes nothing.
+use mathlib.Core.Path.{_≡_, ap, _∙_}
+use mathlib.Core.List.{List, _∷_}
+use Prim.Native.Nat.{ℕ}
+use lib.ListN.{length}
+use Rattle.hash.specs.Digest.{sha256, leafHash, nodeHash}
+use Rattle.hash.specs.Answers.{mostItem, valueNumber, valueBytes}
+use Rattle.hash.specs.declared.Digest.{Digest}
+use Rattle.hash.proofs.Promises.{sha256-length}
+use Rattle.tree.specs.Tree.{leaf, node}
+use Rattle.growing.specs.Hashes.{digest, over}
+use Rattle.growing.proofs.Adding.{value-0}
+
+-- what `hash::node` answers
+pub node-over : (a b r : Digest) → r .bytes ≡ nodeHash (a .bytes) (b .bytes) → r ≡ over sha256 a b
+unfolding node
+node-over a b r e = ap digest e
+
+-- what `hash::leaf` answers
+pub leaf-value : (page r : List ℕ) → valueNumber mostItem page ≡ 0 → r ≡ valueBytes mostItem page (leafHash page) → r ≡ leaf sha256 page
+unfolding leaf
+leaf-value page r z e = e ∙ value-0 mostItem page (leafHash page) z
+
+pub leaf-32 : (page r : List ℕ) → r ≡ leaf sha256 page → length r ≡ 32
+unfolding leaf
+leaf-32 page r e = ap length e ∙ sha256-length (0 ∷ page)

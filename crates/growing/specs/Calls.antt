@@ -1,0 +1,64 @@
+-- The calls that add to a growing tree, what they answer for every value of it, and lists of them (document 02, request 2).
+-- Assumes nothing: these are definitions.
+use mathlib.Core.Path.{_≡_}
+use mathlib.Core.Bool.{cond}
+use mathlib.Core.List.{List, [], _∷_, _++_}
+use Prim.Native.Nat.{ℕ, _+_, _/_}
+use lib.Dec.{ltb, eqb}
+use lib.ListN.{length}
+use Rattle.hash.specs.Answers.{mostItem}
+use Rattle.tree.specs.Limits.{largestSize}
+use Rattle.tree.specs.Tree.{leaf}
+use Rattle.tree.specs.Joined.{nodes}
+use Rattle.tree.specs.Build.{Outcome, into, unfit}
+use Rattle.growing.specs.declared.Growing.{Growing}
+use Rattle.growing.specs.declared.Grown.{Grown}
+use Rattle.growing.specs.Hashes.{withLeaves, rootNow}
+
+-- a call with its bytes: one page, or joined leaf hashes
+pub data Call : Type 0 where
+  ofPage : List ℕ → Call
+  ofLeaves : List ℕ → Call
+
+-- 6: n more leaves go past the largest size
+unfoldable pub roomNumber : ℕ → ℕ → ℕ
+roomNumber count n = cond (ltb largestSize (count + n)) 6 0
+
+-- 1: a page too long. 10: bad joined hashes. Then 6
+unfoldable pub callNumber : ℕ → Call → ℕ
+callNumber count (ofPage page) = cond (ltb mostItem (length page)) 1 (roomNumber count 1)
+callNumber count (ofLeaves leaves) = cond (unfit leaves) 10 (roomNumber count (length leaves / 32))
+
+module _ (H : List ℕ → List ℕ) where
+  -- the leaf hashes that a call brings
+  unfoldable pub brought : Call → List (List ℕ)
+  brought (ofPage page) = leaf H page ∷ []
+  brought (ofLeaves leaves) = nodes leaves
+
+  -- the number, and the tree after it: a refusal changes nothing
+  unfoldable pub answered : Growing → Call → Grown
+  answered g c =
+      record { number = callNumber (g .count) c; after = cond (eqb (callNumber (g .count) c) 0) (withLeaves H g (brought c)) g }
+
+  -- the root into an output of `room` bytes
+  unfoldable pub rootInto : Growing → ℕ → Outcome
+  rootInto g room = into room (rootNow H g)
+
+  -- the tree after a list of calls, the first given g and each later one the tree that the call before returned, refused or not
+  unfoldable pub final : Growing → List Call → Growing
+  final g [] = g
+  final g (c ∷ calls) = final (answered g c .after) calls
+
+  -- the leaf hashes that the accepted ones brought, in order
+  unfoldable pub taken : Growing → List Call → List (List ℕ)
+  taken g [] = []
+  taken g (c ∷ calls) = cond (eqb (answered g c .number) 0) (brought c) [] ++ taken (answered g c .after) calls
+
+  -- those that all of them brought, and that all were accepted
+  unfoldable pub allBrought : List Call → List (List ℕ)
+  allBrought [] = []
+  allBrought (c ∷ calls) = brought c ++ allBrought calls
+
+  unfoldable pub AllAccepted : Growing → List Call → Type 0
+  AllAccepted g [] = Unit {0}
+  AllAccepted g (c ∷ calls) = (answered g c .number ≡ 0) × AllAccepted (answered g c .after) calls

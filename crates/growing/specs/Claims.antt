@@ -1,0 +1,64 @@
+-- What is claimed of every list of calls, over any hash H: proved in proofs/Calling, and promised in the source by `claims`.
+-- Assumes nothing: these are statements.
+use mathlib.Core.Path.{_≡_}
+use mathlib.Core.Logic.{_↔_}
+use mathlib.Core.Bool.{true}
+use mathlib.Core.List.{List, [], _++_}
+use Prim.Native.Nat.{ℕ, suc, _+_, _-_, _*_, _/_, _%_, _^_, _≤_, _<_}
+use lib.Count.{ones}
+use lib.ListN.{length, take, drop, getD}
+use Rattle.hash.specs.Answers.{mostItem}
+use Rattle.tree.specs.Limits.{largestSize, mostLeaves}
+use Rattle.tree.specs.Tree.{root}
+use Rattle.tree.specs.Full.{fullRoots}
+use Rattle.growing.specs.declared.Growing.{Growing}
+use Rattle.growing.specs.Limits.{mostHashes}
+use Rattle.growing.specs.Hashes.{digest, nothing, fresh, counting, withLeaves, rootNow}
+use Rattle.growing.specs.Calls.{Call, ofPage, ofLeaves, answered, final, taken, allBrought, AllAccepted}
+
+-- the leaves of the last full subtree of 2 ^ i leaves
+abbrev pub lastFull : ℕ → List (List ℕ) → List (List ℕ)
+lastFull i l = take (2 ^ i) (drop (2 ^ i * (length l / 2 ^ i - 1)) l)
+
+module _ (H : List ℕ → List ℕ) where
+  -- a growing tree g that has the leaves l
+  pub record Follows (g : Growing) (l : List (List ℕ)) : Type 0 where
+    -- the root is that of all the leaves, and the count theirs
+    pub root-of-all : rootNow H g ≡ root H l
+    pub count-of-all : g .count ≡ length l
+    pub within : length l ≤ largestSize
+    -- the hashes that count are the roots of the full subtrees, one for each one-bit of the count; each stands at its level, and elsewhere there are zeros
+    pub full : counting (g .hashes) (g .count) ≡ fullRoots H l
+    pub ones-count : length (counting (g .hashes) (g .count)) ≡ ones (g .count)
+    pub levels : length (g .hashes) ≡ mostHashes
+    pub at : (i : ℕ) → (length l / 2 ^ i) % 2 ≡ 1 → getD (g .hashes) i nothing .bytes ≡ root H (lastFull i l)
+    pub zeros : (i : ℕ) → (length l / 2 ^ i) % 2 ≡ 0 → getD (g .hashes) i nothing ≡ nothing
+    -- the tree is a function of the leaves
+    pub one-by-one : g ≡ withLeaves H fresh l
+
+  -- after any calls from a new tree, refused ones included, with the leaves that the accepted ones brought
+  abbrev pub FollowsAll : Type 0
+  FollowsAll = (calls : List Call) → Follows (final H fresh calls) (taken H fresh calls)
+
+  -- the same leaves, cut into calls in two ways, refused calls among them or not: one tree, and so one root
+  abbrev pub HoweverCut : Type 0
+  HoweverCut = (calls others : List Call) → taken H fresh calls ≡ taken H fresh others → final H fresh calls ≡ final H fresh others
+
+  -- where all are accepted, all that was brought was taken
+  abbrev pub AllTaken : Type 0
+  AllTaken = (g : Growing) (calls : List Call) → AllAccepted H g calls → taken H g calls ≡ allBrought H calls
+
+  -- a refusal changes nothing, whatever the tree
+  abbrev pub RefusedUnchanged : Type 0
+  RefusedUnchanged = (g : Growing) (c : Call) (n : ℕ) → answered H g c .number ≡ suc n → answered H g c .after ≡ g
+
+  -- which calls are accepted, whatever the tree, and that what is wrong with the bytes comes before 6
+  pub record Accepted (g : Growing) : Type 0 where
+    pub page : (page : List ℕ) → (answered H g (ofPage page) .number ≡ 0) ↔ ((length page ≤ mostItem) × (g .count + 1 ≤ largestSize))
+    pub leaves :
+        (leaves : List ℕ) →
+        (answered H g (ofLeaves leaves) .number ≡ 0) ↔ ((length leaves % 32 ≡ 0) × (length leaves / 32 ≤ mostLeaves) × (g .count + length leaves / 32 ≤ largestSize))
+    pub page-first : (page : List ℕ) → mostItem < length page → answered H g (ofPage page) .number ≡ 1
+    pub joined-first : (leaves : List ℕ) → (length leaves % 32 ≡ 0 → ⊥) → answered H g (ofLeaves leaves) .number ≡ 10
+    pub many-first : (leaves : List ℕ) → mostLeaves < length leaves / 32 → answered H g (ofLeaves leaves) .number ≡ 10
+    pub none : g .count ≤ largestSize → answered H g (ofLeaves []) ≡ record { number = 0; after = g }
