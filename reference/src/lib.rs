@@ -4,6 +4,7 @@
 pub mod auditor;
 pub mod carry;
 pub mod counts;
+pub mod growing;
 pub mod item;
 pub mod proofs;
 pub mod random;
@@ -23,6 +24,7 @@ pub mod layers {
     //! random requests.
     pub mod auditor;
     pub mod carry;
+    pub mod growing;
     pub mod hash;
     pub mod item;
     pub mod tree;

@@ -29,7 +29,14 @@ pub struct Layer {
 }
 
 /// Every layer. A new one adds its module and its line here.
-pub static LAYERS: &[&Layer] = &[&layers::hash::LAYER, &layers::tree::LAYER, &layers::carry::LAYER, &layers::item::LAYER, &layers::auditor::LAYER];
+pub static LAYERS: &[&Layer] = &[
+    &layers::hash::LAYER,
+    &layers::tree::LAYER,
+    &layers::growing::LAYER,
+    &layers::carry::LAYER,
+    &layers::item::LAYER,
+    &layers::auditor::LAYER,
+];
 
 pub fn layer(name: &str) -> Option<&'static Layer> {
     LAYERS.iter().copied().find(|layer| layer.name == name)
@@ -200,7 +207,7 @@ mod tests {
         }
         let requests = committed();
         let (asked, answered) = (requests.len(), answers(LAYERS, &requests).len());
-        assert!(asked < 1_000_000 && answered < 1_000_000, "{asked} and {answered}");
+        assert!(asked < 1_400_000 && answered < 1_400_000, "{asked} and {answered}");
         assert_eq!(requests, committed());
     }
 

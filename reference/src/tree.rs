@@ -77,11 +77,11 @@ pub fn hashes(joined: &[u8]) -> Option<Vec<Hash>> {
 // The builders. Each answers how many bytes it wrote to the lent buffer, or its
 // refusal: 10, then 6, then 9.
 
-fn leaves_of(joined: &[u8]) -> Result<Vec<Hash>, u64> {
+pub fn leaves_of(joined: &[u8]) -> Result<Vec<Hash>, u64> {
     hashes(joined).filter(|leaves| leaves.len() as u64 <= MOST_LEAVES).ok_or(10)
 }
 
-fn hand_out(nodes: &[Hash], lent: &mut [u8]) -> Result<usize, u64> {
+pub fn hand_out(nodes: &[Hash], lent: &mut [u8]) -> Result<usize, u64> {
     let joined = nodes.concat();
     lent.get_mut(..joined.len()).ok_or(9u64)?.copy_from_slice(&joined);
     Ok(joined.len())

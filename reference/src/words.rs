@@ -25,6 +25,14 @@ pub fn repeated(count: usize, byte: u8) -> Word {
     Word::Repeated(count, byte)
 }
 
+/// One byte over and over is written shorter.
+pub fn short(value: &[u8]) -> Word {
+    match value {
+        [first, .., _] if value.iter().all(|byte| byte == first) => repeated(value.len(), *first),
+        _ => bytes(value),
+    }
+}
+
 impl Word {
     pub fn as_number(&self) -> Option<u64> {
         match self {

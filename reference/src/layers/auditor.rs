@@ -8,7 +8,7 @@ use crate::requests::{lines_that_are_no_request, Asked, Entry, Layer, Requests};
 use crate::servers::{spoil, Kind, Log, Server, KINDS};
 use crate::sha256::digest;
 use crate::tree::{HashFunction, MOST_LEAVES};
-use crate::words::{bytes, number, repeated, Word};
+use crate::words::{bytes, number, repeated, short, Word};
 
 pub const LAYER: Layer = Layer {
     name: "auditor",
@@ -46,14 +46,6 @@ fn record_words(record: &Stored) -> Vec<Word> {
         number(record.size),
         bytes(&record.root),
     ]
-}
-
-/// One byte over and over is written shorter.
-fn short(value: &[u8]) -> Word {
-    match value {
-        [first, .., _] if value.iter().all(|byte| byte == first) => repeated(value.len(), *first),
-        _ => bytes(value),
-    }
 }
 
 fn asked(record: &Stored) -> Vec<Word> {

@@ -1,0 +1,463 @@
+//! The growing tree: pages and joined leaf hashes, taken call by call into one
+//! hash a level. A list of calls from a new tree is answered a second time, from
+//! the list of all its leaves and the recursive definition alone.
+
+use crate::item::LONGEST_ITEM;
+use crate::tree::{self, hand_out, hashes, leaf_hash, leaves_of, node_hash, Hash, HashFunction, MOST_LEAVES};
+
+/// Level i stands for 2^i leaves, up to 2^32.
+pub const LEVELS: usize = 33;
+/// What a level holds that stands for no leaves.
+pub const NOTHING: Hash = [0; 32];
+
+/// The hash at level i counts where bit i of the count is one. Any value has its
+/// answers, also one that no list of calls returns.
+#[derive(Clone, Debug, PartialEq, Eq)]
+pub struct Growing {
+    pub hashes: [Hash; LEVELS],
+    pub count: u64,
+}
+
+#[derive(Clone, Debug, PartialEq, Eq)]
+pub enum Call {
+    Page(Vec<u8>),
+    /// Leaf hashes, joined.
+    Leaves(Vec<u8>),
+}
+
+/// 1 for a page that is too long, then 6 for one past the limit; else 0.
+pub fn page_refusal(length: u64, count: u64) -> u64 {
+    if length > LONGEST_ITEM as u64 {
+        1
+    } else if past_the_limit(count, 1) {
+        6
+    } else {
+        0
+    }
+}
+
+/// 10 for joined hashes of a bad length, then 6 for leaves past the limit; else 0.
+pub fn leaves_refusal(length: u64, count: u64) -> u64 {
+    if length % 32 != 0 || length / 32 > MOST_LEAVES {
+        10
+    } else if past_the_limit(count, length / 32) {
+        6
+    } else {
+        0
+    }
+}
+
+/// A count that is past it already has no room for 0 more either.
+fn past_the_limit(count: u64, more: u64) -> bool {
+    !count.checked_add(more).is_some_and(|sum| sum <= MOST_LEAVES)
+}
+
+impl Growing {
+    pub const NEW: Growing = Growing { hashes: [NOTHING; LEVELS], count: 0 };
+
+    /// The number, and the tree after the call.
+    pub fn page(&self, h: HashFunction, page: &[u8]) -> (u64, Growing) {
+        match page_refusal(page.len() as u64, self.count) {
+            0 => (0, self.with(h, &[leaf_hash(h, page)])),
+            number => (number, self.clone()),
+        }
+    }
+
+    /// The number, and the tree after the call.
+    pub fn leaves(&self, h: HashFunction, joined: &[u8]) -> (u64, Growing) {
+        match leaves_refusal(joined.len() as u64, self.count) {
+            0 => (0, self.with(h, &hashes(joined).unwrap())),
+            number => (number, self.clone()),
+        }
+    }
+
+    pub fn call(&self, h: HashFunction, call: &Call) -> (u64, Growing) {
+        match call {
+            Call::Page(page) => self.page(h, page),
+            Call::Leaves(joined) => self.leaves(h, joined),
+        }
+    }
+
+    /// For no more leaves than there is room.
+    fn with(&self, h: HashFunction, leaves: &[Hash]) -> Growing {
+        let mut after = self.clone();
+        leaves.iter().for_each(|leaf| after.add(h, leaf));
+        after
+    }
+
+    /// Whether the hash at this level counts.
+    fn counts(&self, level: usize) -> bool {
+        self.count >> level & 1 == 1
+    }
+
+    /// For a count below the limit: the lowest 33 bits are not all ones.
+    fn add(&mut self, h: HashFunction, leaf: &Hash) {
+        let (mut level, mut hash) = (0, *leaf);
+        while self.counts(level) {
+            hash = node_hash(h, &self.hashes[level], &hash);
+            self.hashes[level] = NOTHING;
+            level += 1;
+        }
+        self.hashes[level] = hash;
+        self.count += 1;
+    }
+
+    /// The hashes that count, folded from the lowest.
+    pub fn root(&self, h: HashFunction) -> Hash {
+        let hashes = (0..LEVELS).filter(|level| self.counts(*level)).map(|level| self.hashes[level]);
+        hashes.reduce(|right, left| node_hash(h, &left, &right)).unwrap_or_else(|| h(&[]))
+    }
+
+    /// The bytes written, or 9.
+    pub fn root_into(&self, h: HashFunction, lent: &mut [u8]) -> Result<usize, u64> {
+        hand_out(&[self.root(h)], lent)
+    }
+}
+
+/// The tree of a list of leaf hashes, from the list alone: where bit i of its
+/// length is one, level i has the root of the 2^i leaves behind those of the
+/// higher ones.
+pub fn of_list(h: HashFunction, leaves: &[Hash]) -> Growing {
+    let n = leaves.len();
+    let mut tree = Growing { count: n as u64, ..Growing::NEW };
+    for (level, hash) in tree.hashes.iter_mut().enumerate() {
+        if n >> level & 1 == 1 {
+            let start = n >> (level + 1) << (level + 1);
+            *hash = tree::root(h, &leaves[start..start + (1 << level)]);
+        }
+    }
+    tree
+}
+
+/// What a list of calls from a new tree gives: the number of each call and the
+/// root after it, and the tree at the end.
+#[derive(Clone, Debug, PartialEq, Eq)]
+pub struct Grown {
+    pub told: Vec<(u64, Hash)>,
+    pub tree: Growing,
+}
+
+/// Each call is given the tree that the call before returned, refused or not.
+fn grow_by_levels(h: HashFunction, calls: &[Call]) -> Grown {
+    let (mut told, mut tree) = (Vec::new(), Growing::NEW);
+    for call in calls {
+        let (number, after) = tree.call(h, call);
+        told.push((number, after.root(h)));
+        tree = after;
+    }
+    Grown { told, tree }
+}
+
+/// By the definition, of the leaves of all calls so far that were not refused.
+fn grow_by_list(h: HashFunction, calls: &[Call]) -> Grown {
+    let (mut told, mut leaves) = (Vec::new(), Vec::new());
+    for call in calls {
+        let number = match added(h, call, leaves.len()) {
+            Ok(more) => {
+                leaves.extend(more);
+                0
+            }
+            Err(number) => number,
+        };
+        told.push((number, tree::root(h, &leaves)));
+    }
+    Grown { told, tree: of_list(h, &leaves) }
+}
+
+/// The leaves that a call adds to a list of so many, or its refusal.
+fn added(h: HashFunction, call: &Call, length: usize) -> Result<Vec<Hash>, u64> {
+    let more = match call {
+        Call::Page(page) if page.len() > LONGEST_ITEM => return Err(1),
+        Call::Page(page) => vec![leaf_hash(h, page)],
+        Call::Leaves(joined) => leaves_of(joined)?,
+    };
+    if length + more.len() > MOST_LEAVES as usize {
+        return Err(6);
+    }
+    Ok(more)
+}
+
+/// Both ways, which must agree.
+pub fn grow(h: HashFunction, calls: &[Call]) -> Grown {
+    let grown = grow_by_levels(h, calls);
+    assert_eq!(grown, grow_by_list(h, calls), "the two ways disagree");
+    grown
+}
+
+#[cfg(test)]
+mod tests {
+    use super::*;
+    use crate::carry::weak;
+    use crate::random::Random;
+    use crate::sha256::{digest, leaf, node};
+    use crate::words::hex;
+
+    const EMPTY: &str = "e3b0c44298fc1c149afbf4c8996fb92427ae41e4649b934ca495991b7852b855";
+    const EMPTY_PAGE: &str = "6e340b9cffb37a989ca544e6bb780a2c78901d3fb33738768511a30617afa01d";
+    const TWO_ZEROS: &str = "ae0798d0ecaed2b778eddebf18f071a561c53658c05e76cedecc27cafbdbc577";
+
+    fn some_hashes(count: usize, random: &mut Random) -> Vec<Hash> {
+        (0..count).map(|_| random.hash()).collect()
+    }
+
+    fn made_up(count: u64, random: &mut Random) -> Growing {
+        Growing { hashes: some_hashes(LEVELS, random).try_into().unwrap(), count }
+    }
+
+    #[test]
+    fn hand_values() {
+        let new = Growing::NEW;
+        assert_eq!(hex(&new.root(digest)), EMPTY);
+        assert_eq!(new.leaves(digest, &[]), (0, new.clone()));
+        let (number, one) = new.page(digest, b"");
+        assert_eq!((number, one.count, hex(&one.hashes[0])), (0, 1, EMPTY_PAGE.into()));
+        assert_eq!(hex(&one.root(digest)), EMPTY_PAGE);
+        let (number, one) = new.leaves(digest, &[0; 32]);
+        assert_eq!((number, one.count, one.root(digest)), (0, 1, NOTHING));
+        let (number, two) = new.leaves(digest, &[0; 64]);
+        assert_eq!((number, two.count, hex(&two.root(digest))), (0, 2, TWO_ZEROS.into()));
+        assert_eq!(hex(&two.hashes[1]), TWO_ZEROS);
+
+        // Three leaves: the first two at level 1, the last at level 0.
+        let (a, b, c) = (leaf(b"a"), leaf(b"b"), leaf(b"c"));
+        let grown = grow(digest, &[Call::Page(b"a".into()), Call::Leaves(vec![]), Call::Leaves([b, c].concat())]);
+        assert_eq!(grown.told, [(0, a), (0, a), (0, node(&node(&a, &b), &c))]);
+        assert_eq!(grown.tree.hashes[..3], [c, node(&a, &b), NOTHING]);
+        assert_eq!((&grown.tree.hashes[2..], grown.tree.count), (&[NOTHING; LEVELS - 2][..], 3));
+    }
+
+    /// The last leaf that there is room for merges all levels.
+    #[test]
+    fn top() {
+        let random = &mut Random::new(32);
+        let top = made_up(MOST_LEAVES - 1, random);
+        let merged = top.hashes[..32].iter().fold(leaf(b"page"), |right, left| node(left, &right));
+        let (number, full) = top.page(digest, b"page");
+        assert_eq!((number, full.count, full.root(digest)), (0, MOST_LEAVES, merged));
+        assert_eq!((&full.hashes[..32], full.hashes[32]), (&[NOTHING; 32][..], merged));
+        assert_eq!(top.leaves(digest, &leaf(b"page")), (0, full.clone()));
+        for (tree, length, number) in [(&top, 64, 6), (&top, 65, 10), (&full, 31, 10), (&full, 32, 6), (&full, 0, 0)] {
+            assert_eq!(tree.leaves(digest, &vec![0; length]), (number, tree.clone()));
+        }
+        assert_eq!(full.page(digest, b"p"), (6, full.clone()));
+        let (long, longer) = (vec![0; LONGEST_ITEM], vec![0; LONGEST_ITEM + 1]);
+        assert_eq!(full.page(digest, &longer), (1, full.clone()));
+        assert_eq!(Growing::NEW.page(digest, &longer), (1, Growing::NEW));
+        assert_eq!(full.page(digest, &long), (6, full.clone()));
+        let (number, one) = Growing::NEW.page(digest, &long);
+        assert_eq!((number, one.root(digest)), (0, leaf(&long)));
+    }
+
+    /// No sum of any count and any length wraps.
+    #[test]
+    fn refusals_by_numbers() {
+        let most = 32 * MOST_LEAVES;
+        for (length, count, number) in [
+            (0, MOST_LEAVES, 0),
+            (0, MOST_LEAVES + 1, 6),
+            (0, u64::MAX, 6),
+            (32, MOST_LEAVES - 1, 0),
+            (32, MOST_LEAVES, 6),
+            (32, u64::MAX, 6),
+            (33, u64::MAX, 10),
+            (64, u64::MAX, 6),
+            (most, 0, 0),
+            (most - 32, 1, 0),
+            (most, 1, 6),
+            (most, u64::MAX, 6),
+            (most - 32, u64::MAX, 6),
+            (most + 32, 0, 10),
+            (most + 32, u64::MAX, 10),
+            (most - 1, 0, 10),
+            (u64::MAX - 31, 0, 10),
+        ] {
+            assert_eq!(leaves_refusal(length, count), number, "{length} bytes, {count} leaves");
+        }
+        let most = LONGEST_ITEM as u64;
+        for (length, count, number) in [
+            (0, 0, 0),
+            (most, MOST_LEAVES - 1, 0),
+            (0, MOST_LEAVES, 6),
+            (most, u64::MAX, 6),
+            (most + 1, 0, 1),
+            (most + 1, MOST_LEAVES, 1),
+            (u64::MAX, u64::MAX, 1),
+        ] {
+            assert_eq!(page_refusal(length, count), number, "{length} bytes, {count} leaves");
+        }
+    }
+
+    /// Pages one by one or as joined leaf hashes, with joined calls of none and refused ones.
+    fn cut(h: HashFunction, pages: &[Vec<u8>], random: &mut Random) -> Vec<Call> {
+        let (mut calls, mut rest) = (Vec::new(), pages);
+        while !rest.is_empty() {
+            let most = if random.one_in(3) { rest.len() } else { rest.len().min(5) };
+            let (now, later) = rest.split_at(random.below(most as u64 + 1) as usize);
+            let joined = now.iter().map(|page| leaf_hash(h, page)).collect::<Vec<Hash>>().concat();
+            if random.one_in(6) {
+                calls.push(Call::Leaves([&joined[..], &[7; 7]].concat()));
+            }
+            if random.one_in(3) {
+                calls.extend(now.iter().cloned().map(Call::Page));
+            } else {
+                calls.push(Call::Leaves(joined));
+            }
+            rest = later;
+        }
+        calls
+    }
+
+    /// Every length up to 300, in random cuts, over both hashes: `grow` compares the ways.
+    #[test]
+    fn levels_equal_the_definition() {
+        let random = &mut Random::new(300);
+        let pages: Vec<Vec<u8>> = (0..300).map(|_| random.bytes(9)).collect();
+        for h in [digest as HashFunction, weak] {
+            let leaves: Vec<Hash> = pages.iter().map(|page| leaf_hash(h, page)).collect();
+            for n in 0..=300 {
+                let (grown, list) = (grow(h, &cut(h, &pages[..n], random)), &leaves[..n]);
+                assert_eq!((&grown.tree, grown.tree.root(h)), (&of_list(h, list), tree::root(h, list)));
+                assert_eq!(Growing::NEW.leaves(h, &list.concat()), (0, grown.tree));
+            }
+        }
+    }
+
+    /// How a wrong program adds a leaf.
+    type Add = fn(&mut Growing, &Hash);
+
+    fn keeps_merged_hashes(tree: &mut Growing, leaf: &Hash) {
+        let before = tree.hashes;
+        tree.add(digest, leaf);
+        for (level, hash) in tree.hashes.iter_mut().enumerate() {
+            if tree.count >> level & 1 == 0 {
+                *hash = before[level];
+            }
+        }
+    }
+
+    fn merges(tree: &mut Growing, leaf: &Hash, levels: usize, join: fn(&Hash, &Hash) -> Hash) {
+        let mut hash = *leaf;
+        for level in 0..levels {
+            hash = join(&tree.hashes[level], &hash);
+            tree.hashes[level] = NOTHING;
+        }
+        tree.hashes[levels] = hash;
+        tree.count += 1;
+    }
+
+    const WRONG: [(&str, Add); 6] = [
+        ("merged once too often", |tree, leaf| merges(tree, leaf, tree.count.trailing_ones() as usize + 1, node)),
+        ("merged once too seldom", |tree, leaf| merges(tree, leaf, tree.count.trailing_ones().saturating_sub(1) as usize, node)),
+        ("merged by the new count", |tree, leaf| merges(tree, leaf, (tree.count + 1).trailing_ones() as usize, node)),
+        ("left and right exchanged", |tree, leaf| merges(tree, leaf, tree.count.trailing_ones() as usize, |left, right| node(right, left))),
+        ("a merged hash kept in its place", keeps_merged_hashes),
+        ("hashed again", |tree, hash| tree.add(digest, &leaf(hash))),
+    ];
+
+    /// How a wrong program folds the hashes that count, the lowest first.
+    const WRONG_ROOTS: [(&str, fn(&[Hash]) -> Hash); 3] = [
+        ("left and right exchanged", |hashes| hashes[1..].iter().fold(hashes[0], |right, left| node(&right, left))),
+        ("the lowest paired with itself", |hashes| hashes.iter().fold(hashes[0], |right, left| node(left, &right))),
+        ("folded from the highest", |hashes| hashes.iter().rev().copied().reduce(|left, right| node(&left, &right)).unwrap()),
+    ];
+
+    #[test]
+    fn wrong_trees_are_caught() {
+        let leaves = some_hashes(9, &mut Random::new(9));
+        let differs = |add: Add| {
+            let mut tree = Growing::NEW;
+            (1..=leaves.len()).any(|n| {
+                add(&mut tree, &leaves[n - 1]);
+                tree != of_list(digest, &leaves[..n])
+            })
+        };
+        for (what, add) in WRONG {
+            assert!(differs(add), "{what}");
+        }
+        assert!(!differs(|tree, leaf| merges(tree, leaf, tree.count.trailing_ones() as usize, node)));
+        let seven = of_list(digest, &leaves[..7]);
+        for (what, root) in WRONG_ROOTS {
+            assert_ne!(root(&seven.hashes[..3]), tree::root(digest, &leaves[..7]), "{what}");
+        }
+    }
+
+    #[test]
+    #[should_panic(expected = "the two ways disagree")]
+    fn ways_that_disagree_stop_the_program() {
+        // A hash that answers otherwise each time.
+        fn unsteady(_: &[u8]) -> Hash {
+            use std::sync::atomic::{AtomicU8, Ordering};
+            static CALLS: AtomicU8 = AtomicU8::new(0);
+            [CALLS.fetch_add(1, Ordering::Relaxed); 32]
+        }
+        grow(unsteady, &[Call::Page(vec![])]);
+    }
+
+    // Any state, from the top down.
+
+    /// The hash of the 2^level leaves from index * 2^level on, of the leaves
+    /// that a state stands for and those that follow.
+    fn subtree(state: &Growing, more: &[Hash], level: usize, index: u64) -> Hash {
+        if (index + 1) << level <= state.count {
+            assert_eq!((state.count >> level, index & 1), (index + 1, 0));
+            state.hashes[level]
+        } else if level == 0 {
+            more[(index - state.count) as usize]
+        } else {
+            node(&subtree(state, more, level - 1, 2 * index), &subtree(state, more, level - 1, 2 * index + 1))
+        }
+    }
+
+    /// A level that no leaf reached is as it was.
+    fn after(state: &Growing, more: &[Hash]) -> Growing {
+        let count = state.count + more.len() as u64;
+        let mut after = Growing { count, ..state.clone() };
+        for level in (0..LEVELS).filter(|level| count >> level != state.count >> level) {
+            let is_there = count >> level & 1 == 1;
+            after.hashes[level] = if is_there { subtree(state, more, level, (count >> level) - 1) } else { NOTHING };
+        }
+        after
+    }
+
+    /// The first k of n leaves, k the largest power of two smaller than n, and the rest.
+    fn root_of(hashes: &[Hash; LEVELS], n: u64) -> Hash {
+        match n {
+            0 => digest(&[]),
+            _ if n.is_power_of_two() => hashes[n.trailing_zeros() as usize],
+            _ => {
+                let k = tree::split(n);
+                node(&hashes[k.trailing_zeros() as usize], &root_of(hashes, n - k))
+            }
+        }
+    }
+
+    #[test]
+    fn any_state() {
+        let random = &mut Random::new(33);
+        for turn in 0..4_000 {
+            let count = match turn % 3 {
+                0 => random.draw() >> random.between(32, 63),
+                1 => (1 << random.below(33)) - random.below(2),
+                _ => MOST_LEAVES - random.below(40),
+            };
+            let state = made_up(count, random);
+            assert_eq!(state.root(digest), root_of(&state.hashes, count));
+            let more = some_hashes(random.below(20) as usize, random);
+            let (number, one) = state.leaves(digest, &more.concat());
+            if count + more.len() as u64 > MOST_LEAVES {
+                assert_eq!((number, one), (6, state));
+                continue;
+            }
+            assert_eq!((number, &one), (0, &after(&state, &more)));
+            let mut each = state;
+            for leaf in &more {
+                (_, each) = each.leaves(digest, leaf);
+            }
+            assert_eq!(each, one);
+        }
+        for count in [1 << 33, 5 << 40, u64::MAX, u64::MAX << 32] {
+            let state = made_up(count, random);
+            assert_eq!(state.root(digest), root_of(&state.hashes, count & ((1 << LEVELS) - 1)));
+        }
+    }
+}
