@@ -3,4 +3,7 @@ pub mod Stepping
 pub mod Holding
 pub mod Adding
 pub mod OfSha256
+pub mod Accepting
 pub mod Calling
+pub mod Showing
+pub mod Every

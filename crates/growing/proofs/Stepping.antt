@@ -4,7 +4,7 @@ use mathlib.Core.List.{List, [], _∷_, _++_, append-nil}
 use Prim.Native.Nat.{ℕ, zero, suc, _+_, _/_, _%_, _≤_, _<_}
 use native.Mathlib.Omega.{arith}
 use native.Mathlib.Numerals.{add-one}
-use lib.ListN.{length, take, drop, getD, set, length-append, length-take}
+use lib.ListN.{length, take, drop, getD, set, length-append, length-take, drop-of-length-le}
 use lib.Seq.{drop-cons, set-split, take-all, take-at, drop-at, append-snoc}
 use borrow.Author.Tests.{eq-eqb, ne-eqb}
 use Rattle.hash.specs.declared.Digest.{Digest}
@@ -18,12 +18,6 @@ use Rattle.growing.specs.Hashes.{digest, nothing, over, counting, carrie
 -- what is read past the end
 abbrev pub past : Digest
 past = digest []
-
-drop-all : (i : ℕ) (s : List Digest) → length s ≤ i → drop i s ≡ []
-drop-all zero [] h = refl
-drop-all zero (x ∷ s) h = absurd (omega arith)
-drop-all (suc i) [] h = refl
-drop-all (suc i) (x ∷ s) h = drop-all i s (omega arith)
 
 -- a hash put at an index: what is before it with it, and what is behind it
 module _ (s : List Digest) (i : ℕ) (x : Digest) (h : i < length s) where
@@ -54,7 +48,7 @@ module _ (H : List ℕ → List ℕ) (s : List Digest) (i n : ℕ) (x : Digest) 
 
   pub carried-end : length s ≤ i → take i s ++ carried H (drop i s) n x ≡ s
   unfolding carried
-  carried-end h = rw (drop-all i s h, take-all i s h, append-nil s)
+  carried-end h = rw (drop-of-length-le s h, take-all i s h, append-nil s)
 
 module _ (s : List Digest) (i n : ℕ) where
   pub counting-even : i < length s → n % 2 ≡ 0 → counting (drop i s) n ≡ counting (drop (i + 1) s) (n / 2)
@@ -67,7 +61,7 @@ module _ (s : List Digest) (i n : ℕ) where
 
   pub counting-end : length s ≤ i → counting (drop i s) n ≡ []
   unfolding counting
-  counting-end h = rw (drop-all i s h)
+  counting-end h = rw (drop-of-length-le s h)
 
 -- the root where `right` is the root of the last leaves
 abbrev pub above : (List ℕ → List ℕ) → List Digest → ℕ → ℕ → List ℕ → List ℕ

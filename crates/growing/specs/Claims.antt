@@ -1,8 +1,7 @@
 -- What is claimed of every list of calls, over any hash H: proved in proofs/Calling, and promised in the source by `claims`.
 -- Assumes nothing: these are statements.
 use mathlib.Core.Path.{_≡_}
-use mathlib.Core.Logic.{_↔_}
-use mathlib.Core.Bool.{true}
+use mathlib.Core.Logic.{_↔_, _⊎_}
 use mathlib.Core.List.{List, [], _++_}
 use Prim.Native.Nat.{ℕ, suc, _+_, _-_, _*_, _/_, _%_, _^_, _≤_, _<_}
 use lib.Count.{ones}
@@ -10,6 +9,9 @@ use lib.ListN.{length, take, drop, getD}
 use Rattle.hash.specs.Answers.{mostItem}
 use Rattle.tree.specs.Limits.{largestSize, mostLeaves}
 use Rattle.tree.specs.Tree.{root}
+use Rattle.tree.specs.Joined.{nodeAt, joined}
+use Rattle.tree.specs.Verdict.{inclusionVerdict, consistencyVerdict}
+use Rattle.tree.specs.Build.{wrote, inclusionBuilt, consistencyBuilt}
 use Rattle.tree.specs.Full.{fullRoots}
 use Rattle.growing.specs.declared.Growing.{Growing}
 use Rattle.growing.specs.Limits.{mostHashes}
@@ -52,8 +54,8 @@ module _ (H : List ℕ → List ℕ) where
   abbrev pub RefusedUnchanged : Type 0
   RefusedUnchanged = (g : Growing) (c : Call) (n : ℕ) → answered H g c .number ≡ suc n → answered H g c .after ≡ g
 
-  -- which calls are accepted, whatever the tree, and that what is wrong with the bytes comes before 6
-  pub record Accepted (g : Growing) : Type 0 where
+  -- which calls are accepted, whatever the tree, and that what is wrong with the bytes comes before 6; no joined hashes add nothing
+  pub record Accepts (g : Growing) : Type 0 where
     pub page : (page : List ℕ) → (answered H g (ofPage page) .number ≡ 0) ↔ ((length page ≤ mostItem) × (g .count + 1 ≤ largestSize))
     pub leaves :
         (leaves : List ℕ) →
@@ -62,3 +64,31 @@ module _ (H : List ℕ → List ℕ) where
     pub joined-first : (leaves : List ℕ) → (length leaves % 32 ≡ 0 → ⊥) → answered H g (ofLeaves leaves) .number ≡ 10
     pub many-first : (leaves : List ℕ) → mostLeaves < length leaves / 32 → answered H g (ofLeaves leaves) .number ≡ 10
     pub none : g .count ≤ largestSize → answered H g (ofLeaves []) ≡ record { number = 0; after = g }
+
+  abbrev pub AcceptsAll : Type 0
+  AcceptsAll = (g : Growing) → Accepts g
+
+  -- what the builders build of the leaves taken, the verdicts accept under the growing tree's root and count, and between two of its moments
+  pub record Shown (calls : List Call) : Type 0 where
+    pub inclusion :
+        (place room : ℕ) (w : List ℕ) → inclusionBuilt H (joined (taken H fresh calls)) place room ≡ wrote w →
+        inclusionVerdict H (nodeAt place (joined (taken H fresh calls))) place (final H fresh calls .count) (rootNow H (final H fresh calls)) w ≡ 0
+    pub consistency :
+        (more : List Call) (room : ℕ) (w : List ℕ) → consistencyBuilt H (joined (taken H fresh (calls ++ more))) (final H fresh calls .count) room ≡ wrote w →
+        consistencyVerdict H (final H fresh calls .count) (final H fresh (calls ++ more) .count) (rootNow H (final H fresh calls)) (rootNow H (final H fresh (calls ++ more))) w ≡ 0
+
+  abbrev pub ShownAll : Type 0
+  ShownAll = (calls : List Call) → Shown calls
+
+  -- two strings that differ and have one hash
+  pub record Collision : Type 0 where
+    pub first : List ℕ
+    pub second : List ℕ
+    pub different : first ≡ second → ⊥
+    pub one-hash : H first ≡ H second
+
+  -- two growing trees with one count and one root have the same leaves, or a collision is found
+  abbrev pub SameLeaves : Type 0
+  SameLeaves =
+      (calls others : List Call) → final H fresh calls .count ≡ final H fresh others .count → rootNow H (final H fresh calls) ≡ rootNow H (final H fresh others) →
+      (taken H fresh calls ≡ taken H fresh others) ⊎ Collision

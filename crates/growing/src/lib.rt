@@ -10,10 +10,10 @@ ghost use mathlib.Core.Path.{_≡_};
 ghost use lib.ListN.{length};
 ghost use Rattle.hash.specs.Digest.{sha256};
 ghost use Rattle.tree.specs.Build.{building, report, output};
-ghost use Rattle.tree.specs.Claims.{OfEvery};
+ghost use Rattle.tree.specs.Claims.{OfEvery, OfEvery32};
 ghost use Rattle.growing.specs.Hashes.{fresh, rootNow};
 ghost use Rattle.growing.specs.Calls.{rootInto};
-ghost use Rattle.growing.specs.Claims.{FollowsAll, HoweverCut, AllTaken, RefusedUnchanged, Accepted};
+ghost use Rattle.growing.specs.Claims.{FollowsAll, HoweverCut, AllTaken, RefusedUnchanged, AcceptsAll, ShownAll, SameLeaves};
 use hash::Digest;
 use levels::none;
 use levels::root_of;
@@ -72,4 +72,7 @@ pub fn claims()
     ensures however_cut { λ _. ⌜ OfEvery HoweverCut ⌝ }
     ensures all_taken { λ _. ⌜ OfEvery AllTaken ⌝ }
     ensures refused_unchanged { λ _. ⌜ OfEvery RefusedUnchanged ⌝ }
+    ensures accepts_all { λ _. ⌜ OfEvery AcceptsAll ⌝ }
+    ensures shown_all { λ _. ⌜ OfEvery32 ShownAll ⌝ }
+    ensures same_leaves { λ _. ⌜ OfEvery32 SameLeaves ⌝ }
 {}

@@ -1,0 +1,151 @@
+-- A growing tree and the verdicts: what is built of its leaves is accepted under its root. And one root of one count binds the leaves, or a collision is
+-- found. Over any hash of 32 bytes. Assumes nothing.
+use mathlib.Core.Path.{_≡_, refl, sym, ap, ap₂, _∙_}
+use mathlib.Core.Logic.{_⊎_, inl, inr, ⊎-elim}
+use mathlib.Core.Bool.{Bool, true, false, false≢true, cond}
+use mathlib.Core.List.{List, [], _∷_, _++_, append-nil, append-assoc}
+use Prim.Native.Nat.{ℕ, _-_, _/_, _<_}
+use native.Mathlib.Omega.{arith}
+use lib.Dec.{eqb}
+use lib.ListN.{length, take, drop, take-append-drop}
+use lib.Seq.{take-at, drop-at}
+use Rattle.tree.specs.Split.{split}
+use Rattle.tree.specs.Tree.{leaf, node, root}
+use Rattle.tree.specs.Joined.{nodes, nodeAt, joined, same}
+use Rattle.tree.specs.Equations.{left, right}
+use Rattle.tree.specs.Verdict.{inclusionVerdict, consistencyVerdict}
+use Rattle.tree.specs.Build.{wrote, inclusionBuilt, consistencyBuilt}
+use Rattle.tree.proofs.Rfc.{root-one, root-split, length-left, length-right, by-parts}
+use Rattle.tree.proofs.Splitting.{split-ends}
+use Rattle.tree.proofs.Joining.{All32, all-append, all-none, all-one, all-take, all-drop, all-nodes, joined-length, nodes-joined, same-true, same-of}
+use Rattle.tree.proofs.Completing.{root-32}
+use Rattle.tree.proofs.Building.{complete}
+use Rattle.growing.specs.declared.Growing.{Growing}
+use Rattle.growing.specs.Hashes.{fresh, rootNow}
+use Rattle.growing.specs.Calls.{Call, ofPage, ofLeaves, brought, answered, final, taken}
+use Rattle.growing.specs.Claims.{ShownAll, Collision, SameLeaves}
+use Rattle.growing.proofs.Calling.{follows-all}
+
+module _ (H : List ℕ → List ℕ) where
+  -- a list of calls in two parts
+  final-append : (g : Growing) (calls more : List Call) → final H g (calls ++ more) ≡ final H (final H g calls) more
+  unfolding final
+  final-append g [] more = refl
+  final-append g (c ∷ calls) more = final-append (answered H g c .after) calls more
+
+  taken-append : (g : Growing) (calls more : List Call) → taken H g (calls ++ more) ≡ taken H g calls ++ taken H (final H g calls) more
+  unfolding final taken
+  taken-append g [] more = refl
+  taken-append g (c ∷ calls) more =
+      let k = cond (eqb (answered H g c .number) 0) (brought H c) [] in
+      let t = answered H g c .after in
+      ap (λ (l : List (List ℕ)). k ++ l) (taken-append t calls more) ∙ sym (append-assoc k (taken H t calls) (taken H (final H t calls) more))
+
+  module _ (H32 : (s : List ℕ) → length (H s) ≡ 32) where
+    -- every leaf hash that is taken has 32 bytes
+    brought-32 : (c : Call) → All32 (brought H c)
+    unfolding brought leaf
+    brought-32 (ofPage page) = all-one (leaf H page) (H32 (0 ∷ page))
+    brought-32 (ofLeaves leaves) = all-nodes leaves
+
+    pub taken-32 : (g : Growing) (calls : List Call) → All32 (taken H g calls)
+    unfolding taken
+    taken-32 g [] = all-none
+    taken-32 g (c ∷ calls) = all-append (cond (eqb (answered H g c .number) 0) (brought H c) []) (taken H (answered H g c .after) calls) (go (eqb (answered H g c .number) 0)) (taken-32 (answered H g c .after) calls)
+      where
+        go : (b : Bool) → All32 (cond b (brought H c) [])
+        go true = brought-32 c
+        go false = all-none
+
+    -- the builders' list, and its count
+    list-of : (calls : List Call) → nodes (joined (taken H fresh calls)) ≡ taken H fresh calls
+    list-of calls = nodes-joined (taken H fresh calls) (taken-32 fresh calls)
+
+    count-of : (calls : List Call) → length (joined (taken H fresh calls)) / 32 ≡ final H fresh calls .count
+    count-of calls =
+        let e = joined-length (taken H fresh calls) (taken-32 fresh calls) in
+        let d = follows-all H calls .count-of-all in
+        omega arith
+
+    root-of : (calls : List Call) → root H (nodes (joined (taken H fresh calls))) ≡ rootNow H (final H fresh calls)
+    root-of calls = ap (root H) (list-of calls) ∙ sym (follows-all H calls .root-of-all)
+
+    -- the leaves of an earlier moment are the first of those of a later one
+    earlier : (calls more : List Call) → root H (take (final H fresh calls .count) (nodes (joined (taken H fresh (calls ++ more))))) ≡ rootNow H (final H fresh calls)
+    earlier calls more =
+        let l = taken H fresh calls in
+        let d = follows-all H calls .count-of-all in
+        ap (λ (t : List (List ℕ)). root H (take (final H fresh calls .count) t)) (list-of (calls ++ more) ∙ taken-append fresh calls more)
+        ∙ ap (root H) (take-at l (taken H (final H fresh calls) more) (final H fresh calls .count) (sym d))
+        ∙ sym (follows-all H calls .root-of-all)
+
+    pub shown-all : ShownAll H
+    shown-all calls = record {
+      inclusion = λ place room w e.
+          rw (count-of calls, root-of calls) at (complete H H32 .inclusion (joined (taken H fresh calls)) w place room e);
+      consistency = λ more room w e.
+          rw (count-of (calls ++ more), root-of (calls ++ more), earlier calls more) at (complete H H32 .consistency (joined (taken H fresh (calls ++ more))) w (final H fresh calls .count) room e);
+    }
+
+    -- ---- one root of one count
+
+    -- two nodes with one hash have the same parts, or their strings collide
+    parts : (a b c d : List ℕ) → length a ≡ 32 → length c ≡ 32 → node H a b ≡ node H c d → ((a ≡ c) × (b ≡ d)) ⊎ Collision H
+    unfolding node
+    parts a b c d p q e = go (same (1 ∷ (a ++ b)) (1 ∷ (c ++ d))) refl
+      where
+        go : (t : Bool) → same (1 ∷ (a ++ b)) (1 ∷ (c ++ d)) ≡ t → ((a ≡ c) × (b ≡ d)) ⊎ Collision H
+        go true s =
+            let u : a ++ b ≡ c ++ d = ap (drop 1) (same-true (1 ∷ (a ++ b)) (1 ∷ (c ++ d)) s) in
+            inl (
+              sym (take-at a b 32 p) ∙ ap (take 32) u ∙ take-at c d 32 q,
+              sym (drop-at a b 32 p) ∙ ap (drop 32) u ∙ drop-at c d 32 q,
+            )
+        go false s = inr record { first = 1 ∷ (a ++ b); second = 1 ∷ (c ++ d); different = λ u. false≢true (sym s ∙ same-of (1 ∷ (a ++ b)) (1 ∷ (c ++ d)) u); one-hash = e }
+
+    Binds : List (List ℕ) → Type 0
+    Binds l = (m : List (List ℕ)) → length m ≡ length l → All32 l → All32 m → root H l ≡ root H m → (l ≡ m) ⊎ Collision H
+
+    binds-one : (h : List ℕ) → Binds (h ∷ [])
+    unfolding Binds
+    binds-one h [] e p q r = absurd (omega arith)
+    binds-one h (x ∷ []) e p q r = inl (ap (λ (y : List ℕ). y ∷ []) (sym (root-one H h) ∙ r ∙ root-one H x))
+    binds-one h (x ∷ (y ∷ m)) e p q r = absurd (omega arith)
+
+    binds-more : (l : List (List ℕ)) → 1 < length l → Binds (left l) → Binds (right l) → Binds l
+    unfolding Binds
+    binds-more l more low high m e p q r =
+        let k = split (length l) in
+        let d : split (length m) ≡ k = ap split e in
+        let a = length-left l more in
+        let b = length-right l more in
+        let u : length (left m) ≡ length (left l) = length-left m (omega arith) ∙ d ∙ sym a in
+        let v : length (right m) ≡ length (right l) = length-right m (omega arith) ∙ ap₂ _-_ e d ∙ sym b in
+        let x : All32 (left m) = all-take (split (length m)) m q in
+        let y : All32 (right m) = all-drop (split (length m)) m q in
+        let n = sym (root-split H l more) ∙ r ∙ root-split H m (omega arith) in
+        ⊎-elim
+        (λ t.
+        ⊎-elim
+        (λ f. ⊎-elim
+        (λ g. inl (sym (take-append-drop k l) ∙ ap₂ _++_ f g ∙ take-append-drop (split (length m)) m))
+        inr
+        (high (right m) v (all-drop k l p) y (t .1)))
+        inr
+        (low (left m) u (all-take k l p) x (t .0)))
+        inr
+        (parts (root H (left l)) (root H (right l)) (root H (left m)) (root H (right m)) (root-32 H H32 (left l) (all-take k l p)) (root-32 H H32 (left m) x) n)
+
+    binds : (l : List (List ℕ)) → Binds l
+    unfolding Binds
+    binds [] [] e p q r = inl refl
+    binds [] (x ∷ m) e p q r = absurd (omega arith)
+    binds (h ∷ l) m e p q r = by-parts Binds binds-one binds-more (h ∷ l) (omega arith) m e p q r
+
+    pub same-leaves : SameLeaves H
+    unfolding Binds
+    same-leaves calls others e r =
+        let f = follows-all H calls in
+        let g = follows-all H others in
+        binds (taken H fresh calls) (taken H fresh others) (sym (g .count-of-all) ∙ sym e ∙ f .count-of-all) (taken-32 fresh calls) (taken-32 fresh others)
+        (sym (f .root-of-all) ∙ r ∙ g .root-of-all)
