@@ -21,7 +21,7 @@ pub(crate) fn hash_from(s: &[u8]) -> [u8; 32] {
     b
 }
 
-fn kept(number: u32, d: Digest, lent: &mut [u8]) -> Answer {
+pub(crate) fn kept(number: u32, d: Digest, lent: &mut [u8]) -> Answer {
     let b = d.bytes;
     keep(&b, lent);
     strings(one(number), 32, 0)
@@ -31,7 +31,7 @@ fn hashed(h: Hashed, lent: &mut [u8]) -> Answer {
     kept(h.number, h.digest, lent)
 }
 
-fn digest_from(s: &[u8]) -> Digest {
+pub(crate) fn digest_from(s: &[u8]) -> Digest {
     Digest {
         bytes: hash_from(s),
     }

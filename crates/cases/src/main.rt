@@ -2,11 +2,12 @@
 // proved safe, and what it writes is compared with what an independent program says.
 //
 // input: the lines of standard input    cut: parts of a text    table: the entries    value: one argument    request: the arguments of a line
-// answers: the words of an answer       hashing, trees, carrying, items, auditing: what the entries of a crate call
+// answers: the words of an answer       hashing, trees, growth, carrying, items, auditing: what the entries of a crate call
 mod answers;
 mod auditing;
 mod carrying;
 mod cut;
+mod growth;
 mod hashing;
 mod input;
 mod items;

@@ -78,11 +78,12 @@ fn most(letter: u8) -> u64 {
     }
 }
 
-// Whether a letter takes n bytes: a hash (h), a log id with what follows it (i), up to 256 words (w), or any.
+// Whether a letter takes n bytes: a hash (h), a log id with what follows it (i), a growing tree's hashes (g), up to 256 words (w), or any.
 fn fits(letter: u8, n: usize) -> bool {
     match letter {
         b'h' => n == 32,
         b'i' => n == 127,
+        b'g' => n == 1056,
         b'w' => n <= 1024 && n % 4 == 0,
         _ => true,
     }

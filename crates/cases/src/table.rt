@@ -6,6 +6,7 @@ use crate::carrying;
 use crate::cut::part;
 use crate::cut::seek;
 use crate::cut::word;
+use crate::growth;
 use crate::hashing;
 use crate::items;
 use crate::request::Numbers;
@@ -16,7 +17,7 @@ use crate::trees;
 
 // A line for each entry: its name; a letter for its crate and one for the entry; a letter for each argument (request.rt); a letter for each word of its
 // answer (answers.rt).
-pub(crate) fn rows() -> [u8; 489] {
+pub(crate) fn rows() -> [u8; 591] {
     *b"digest ha b nm\n\
 leaf hb b nm\n\
 node hc hh m\n\
@@ -30,6 +31,11 @@ inclusion td bnnbb n\n\
 consistency te nnbbb n\n\
 inclusion_count tf nn n\n\
 subproof_count tg nnf n\n\
+grow_page ga gnb nmn\n\
+grow_leaves gb gnb nmn\n\
+grow_root gc gn m\n\
+grow_root_into gd gnl nnl\n\
+grow ge b mpn\n\
 carry ca bnnbbnbbbb nnnmp\n\
 compare cb nnbbbbbl nnl\n\
 read ia b nnnnnnnnnnnn\n\
@@ -76,6 +82,7 @@ pub(crate) fn answer(code: &[u8], r: Request, mem: &[u8], lent: &mut [u8]) -> An
     match layer {
         b'h' => hashing::answer(entry, a, b, c, lent),
         b't' => trees::answer(entry, n, a, b, c, lent),
+        b'g' => growth::answer(entry, n, a, b, lent),
         _ => upper(layer, entry, n, a, b, c, r, mem, lent),
     }
 }

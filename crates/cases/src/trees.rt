@@ -11,7 +11,7 @@ use tree::count::subproof_count;
 use tree::verdict::consistency_verdict;
 use tree::verdict::inclusion_verdict;
 
-fn built(b: Built) -> Answer {
+pub(crate) fn built(b: Built) -> Answer {
     match b {
         Built::Wrote(count) => words(0, count as u64, 0),
         Built::Refused(number) => one(number),
