@@ -1,4 +1,4 @@
-// The archive's log: leaf hashes in the order of filing, heads over them, and paths.
+// The archive's log: a growing tree that the pages are filed in, heads over it, and the leaf hashes in the order of filing, from which paths are built.
 use crate::bytes::Made;
 use crate::bytes::blank;
 use crate::bytes::first;
@@ -6,16 +6,21 @@ use crate::bytes::put_all;
 use crate::bytes::slice;
 use auditor::journal::Appended;
 use auditor::journal::append;
+use growing::Growing;
+use growing::Grown;
+use growing::add::add_leaves;
+use growing::add::add_page;
 use hash::Hashed;
 use tree::build::Built;
 use tree::build::consistency_path;
 use tree::build::inclusion_path;
 
-// The leaf hashes of `size` pages, joined; the number of the first refusal, or 0.
+// The tree of `size` pages, and their leaf hashes, joined; the number of the first refusal, or 0.
 pub struct Log {
     pub number: u32,
     pub size: usize,
     pub leaves: [u8; 256],
+    pub tree: Growing,
 }
 
 // A head without its signature.
@@ -31,6 +36,7 @@ pub(crate) fn empty() -> Log {
         number: 0,
         size: 0,
         leaves: blank(),
+        tree: growing::new(),
     }
 }
 
@@ -55,14 +61,19 @@ fn put_leaf(leaves: [u8; 256], place: usize, leaf: Hashed) -> [u8; 256] {
     after
 }
 
-// The log with a page at a place, and of a size after it.
-fn with(log: Log, place: usize, page: Made, size: usize) -> Log {
+// The log with a page at a place, of a size and with a tree after it.
+fn with(log: Log, place: usize, page: Made, size: usize, grown: Grown) -> Log {
     let hashed = leaf(page);
     let leaves = log.leaves;
+    let tree = grown.after;
     Log {
-        number: first(log.number, first(page.number, hashed.number)),
+        number: first(
+            log.number,
+            first(page.number, first(hashed.number, grown.number)),
+        ),
         size,
         leaves: put_leaf(leaves, place, hashed),
+        tree,
     }
 }
 
@@ -72,33 +83,39 @@ pub(crate) fn add(log: Log, page: Made) -> Log {
     if size > 7 {
         return log;
     }
-    with(log, size, page, size + 1)
+    let bytes = page.bytes;
+    let grown = add_page(log.tree, slice(&bytes, page.len));
+    with(log, size, page, size + 1, grown)
 }
 
-// The log with a page over the one at a place.
+// The log with a page over the one at a place. A growing tree has no call for this: another one is made of the leaf hashes.
 pub(crate) fn save_over(log: Log, place: usize, page: Made) -> Log {
-    with(log, place, page, log.size)
+    let before = log.leaves;
+    let leaves = put_leaf(before, place, leaf(page));
+    let grown = add_leaves(growing::new(), slice(&leaves, hashes(log.size)));
+    with(log, place, page, log.size, grown)
 }
 
 // The log with one number more that was answered on its way.
 pub(crate) fn noted(log: Log, number: u32) -> Log {
     let leaves = log.leaves;
+    let tree = log.tree;
     Log {
         number: first(log.number, number),
         size: log.size,
         leaves,
+        tree,
     }
 }
 
-// The head over the first `size` pages.
-pub(crate) fn head_of(log: Log, size: usize, timestamp: u64) -> Head {
-    let leaves = log.leaves;
-    let made = tree::build::root_of(slice(&leaves, hashes(size)));
-    let root = made.digest.bytes;
+// The head over all pages so far.
+pub(crate) fn head_of(log: Log, timestamp: u64) -> Head {
+    let made = growing::root(log.tree);
+    let root = made.bytes;
     Head {
-        number: first(log.number, made.number),
+        number: log.number,
         timestamp,
-        size: size as u64,
+        size: log.tree.count,
         root,
     }
 }

@@ -2,7 +2,7 @@
 // the place of a signed one. What is printed of a step is what the call answered; an answer that is not the expected one is printed as UNEXPECTED, and
 // the last line says so.
 //
-// pages: page items    log: leaf hashes, heads, paths    audit: the auditor's steps    bytes, say: what these write with
+// pages: page items    log: the growing tree, heads, paths    audit: the auditor's steps    bytes, say: what these write with
 mod audit;
 mod bytes;
 mod log;
@@ -47,7 +47,7 @@ fn file(log: Log, page: Made) -> Log {
     add(noted(log, read), page)
 }
 
-fn file_seven(signed: Made) -> Log {
+fn file_three(signed: Made) -> Log {
     words(
         b"An archive files seven pages of agreements. The place, the leaf hash and the text of each:\n",
     );
@@ -60,7 +60,11 @@ fn file_seven(signed: Made) -> Log {
         log,
         page(302, 1, b"5 vials of cell line HeLa to Laboratory B"),
     );
-    log = file(log, signed);
+    file(log, signed)
+}
+
+fn file_four(given: Log) -> Log {
+    let mut log = given;
     log = file(
         log,
         page(303, 1, b"20 embryos of zebrafish line AB to Laboratory C"),
@@ -77,13 +81,13 @@ fn file_seven(signed: Made) -> Log {
 }
 
 // The auditor follows the archive from three pages to seven.
-fn follow(log: Log, signed: Made) -> Audit {
+fn follow(three: Log, log: Log, signed: Made) -> Audit {
     words(
         b"\nAn auditor takes the archive's heads (a count of pages, one root over them) and asks for a page:\n",
     );
-    let one = head_of(log, 3, 1000);
+    let one = head_of(three, 1000);
     let path = inclusion(log, 3, 2);
-    let two = head_of(log, 7, 2000);
+    let two = head_of(log, 2000);
     let between = consistency(log, 3);
     let later = inclusion(log, 7, 2);
     let mut a = audit::start();
@@ -126,7 +130,7 @@ fn amend(given: Audit, log: Log, amended: Made) -> Audit {
         a,
         b"  Head over it",
         &LOG,
-        head_of(changed, 7, 3000),
+        head_of(changed, 3000),
         no_path(),
         13,
     );
@@ -134,14 +138,14 @@ fn amend(given: Audit, log: Log, amended: Made) -> Audit {
         a,
         b"  Head over it",
         &LOG,
-        head_of(longer, 8, 3000),
+        head_of(longer, 3000),
         consistency(longer, 7),
         8,
     )
 }
 
 // Heads over the signed pages that don't follow the one held.
-fn go_back(given: Audit, log: Log) -> Audit {
+fn go_back(given: Audit, three: Log, log: Log) -> Audit {
     words(
         b"\nIt offers heads over the signed pages that do not follow the one that the auditor holds:\n",
     );
@@ -150,7 +154,7 @@ fn go_back(given: Audit, log: Log) -> Audit {
         a,
         b"  Head with an earlier time",
         &LOG,
-        head_of(log, 7, 1500),
+        head_of(log, 1500),
         no_path(),
         12,
     );
@@ -158,7 +162,7 @@ fn go_back(given: Audit, log: Log) -> Audit {
         a,
         b"  Head of another log",
         &OTHER_LOG,
-        head_of(log, 7, 3000),
+        head_of(log, 3000),
         no_path(),
         11,
     );
@@ -166,7 +170,7 @@ fn go_back(given: Audit, log: Log) -> Audit {
         a,
         b"  Head of a smaller tree",
         &LOG,
-        head_of(log, 3, 3000),
+        head_of(three, 3000),
         no_path(),
         6,
     )
@@ -185,10 +189,11 @@ fn conclude(good: bool) {
 fn main() {
     let signed = page(302, 2, b"Laboratory B may not pass the cells on");
     let amended = page(302, 2, b"Laboratory B may pass the cells on");
-    let log = file_seven(signed);
-    let mut a = follow(log, signed);
+    let three = file_three(signed);
+    let log = file_four(three);
+    let mut a = follow(three, log, signed);
     a = amend(a, log, amended);
-    a = go_back(a, log);
+    a = go_back(a, three, log);
     words(b"\nThe signed page is asked for once more:\n");
     a = ask(a, b"  Signed page", 2, signed, inclusion(log, 7, 2), 0);
     conclude(a.good);
