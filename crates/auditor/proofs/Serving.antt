@@ -34,7 +34,8 @@ use Rattle.auditor.specs.Page.{pageNumber}
 use Rattle.auditor.specs.Heads.{Heads, lastSize, lastRoot, joinedHeads, headsOf}
 use Rattle.auditor.specs.Dispute.{Finding, alike, longestPath, Ruling, report, onward, settled, unless, follow, dispute}
 use Rattle.auditor.specs.Calls.{Call, offer, ask, Entry, answered, answers, number, after, run, heads}
-use Rattle.auditor.specs.Claims.{leaves, Served, HonestLog}
+use Rattle.growing.proofs.Calling.{follows-all}
+use Rattle.auditor.specs.Claims.{leaves, Served, HonestLog, GrownHeads}
 use Rattle.auditor.proofs.Reading.{read-back}
 use Rattle.auditor.proofs.Holding.{same-answers, heads-fit}
 
@@ -324,3 +325,11 @@ honest-log id pages calls least most all items s =
   where
     accepted₀ : answers none calls ≡ map (λ (c : Call). answered c 0) calls
     accepted₀ = same-answers calls ∙ accepts id pages all least most items s (omega arith)
+
+pub grown-heads : GrownHeads
+unfolding hashes
+grown-heads id pages calls n all le e =
+    let f = follows-all sha256 calls in
+    let k = length-map pages (leaf sha256) in
+    let t : length (take n (map (leaf sha256) pages)) ≡ n = simp length-take (omega arith) in
+    (f .count-of-all ∙ ap length e ∙ t, f .root-of-all ∙ ap (root sha256) (e ∙ sym (leaves-nodes id pages all n le)))

@@ -9,6 +9,8 @@ use Rattle.tree.specs.Limits.{largestSize}
 use Rattle.tree.specs.Tree.{leaf, root}
 use Rattle.tree.specs.Joined.{nodes, joined}
 use Rattle.tree.specs.Build.{wrote, inclusionBuilt, consistencyBuilt}
+use Rattle.growing.specs.Hashes.{fresh, rootNow}
+use Rattle.growing.specs.Calls as growing
 use Rattle.sha256.specs.Told.{Told}
 use Rattle.auditor.specs.declared.Record.{Record}
 use Rattle.auditor.specs.Held.{Held, empty, head, view, none}
@@ -70,3 +72,11 @@ abbrev pub HonestLog : Type 0
 HonestLog =
     (id : List ℕ) (pages : List (List ℕ)) (calls : List Call) → 2 ≤ length id → length id ≤ 127 → length pages ≤ largestSize →
     ((i : ℕ) → length (getD pages i []) ≤ mostItem) → Served id pages 0 0 calls → HonestFor id pages calls
+
+-- its head over the first n pages is what a growing tree tells that took them, however they were cut into calls
+abbrev pub GrownHeads : Type 0
+GrownHeads =
+    (id : List ℕ) (pages : List (List ℕ)) (calls : List growing.Call) (n : ℕ) → length pages ≤ largestSize → n ≤ length pages →
+    growing.taken sha256 fresh calls ≡ take n (map (leaf sha256) pages) →
+    (let g = growing.final sha256 fresh calls in
+    (g .count ≡ n) × (rootNow sha256 g ≡ root sha256 (nodes (leaves id pages n))))

@@ -18,7 +18,7 @@ ghost use Rattle.auditor.specs.Held.{none, stayed};
 ghost use Rattle.auditor.specs.Demand.{Demand3, WhateverGiven, TwoAuditors};
 ghost use Rattle.auditor.specs.Keeping.{JournalJoins, LongEnough, AsKept};
 ghost use Rattle.auditor.specs.Examples.{Disputed};
-ghost use Rattle.auditor.specs.Claims.{HeldIsAccepted, RefusedAddNothing, NeverBack, HonestLog};
+ghost use Rattle.auditor.specs.Claims.{HeldIsAccepted, RefusedAddNothing, NeverBack, HonestLog, GrownHeads};
 use bytes::no_id;
 use bytes::no_root;
 
@@ -75,6 +75,7 @@ pub fn claims()
     ensures never_back { λ _. ⌜ NeverBack ⌝ }
     ensures disputed { λ _. ⌜ Disputed ⌝ }
     ensures honest_log { λ _. ⌜ HonestLog ⌝ }
+    ensures grown_heads { λ _. ⌜ GrownHeads ⌝ }
     ensures settling_loses_nothing { λ _. ⌜ Faithful settling ⌝ }
     ensures appending_loses_nothing { λ _. ⌜ Faithful appending ⌝ }
 {}
