@@ -38,13 +38,19 @@ module _ (H : List ℕ → List ℕ) where
     -- the tree is a function of the leaves
     pub one-by-one : g ≡ withLeaves H fresh l
 
-  -- after any calls from a new tree, refused ones included, with the leaves that the accepted ones brought
-  abbrev pub FollowsAll : Type 0
-  FollowsAll = (calls : List Call) → Follows (final H fresh calls) (taken H fresh calls)
+  -- the tree after calls from a new one, refused ones included, and the leaves that the accepted ones brought
+  abbrev pub treeOf : List Call → Growing
+  treeOf calls = final H fresh calls
 
-  -- the same leaves, cut into calls in two ways, refused calls among them or not: one tree, and so one root
+  abbrev pub leavesOf : List Call → List (List ℕ)
+  leavesOf calls = taken H fresh calls
+
+  abbrev pub FollowsAll : Type 0
+  FollowsAll = (calls : List Call) → Follows (treeOf calls) (leavesOf calls)
+
+  -- the same leaves, cut into calls in two ways, refused calls among them or not: one tree, and so one root, after any of the calls as at the end
   abbrev pub HoweverCut : Type 0
-  HoweverCut = (calls others : List Call) → taken H fresh calls ≡ taken H fresh others → final H fresh calls ≡ final H fresh others
+  HoweverCut = (calls others : List Call) → leavesOf calls ≡ leavesOf others → treeOf calls ≡ treeOf others
 
   -- where all are accepted, all that was brought was taken
   abbrev pub AllTaken : Type 0
@@ -59,7 +65,8 @@ module _ (H : List ℕ → List ℕ) where
     pub page : (page : List ℕ) → (answered H g (ofPage page) .number ≡ 0) ↔ ((length page ≤ mostItem) × (g .count + 1 ≤ largestSize))
     pub leaves :
         (leaves : List ℕ) →
-        (answered H g (ofLeaves leaves) .number ≡ 0) ↔ ((length leaves % 32 ≡ 0) × (length leaves / 32 ≤ mostLeaves) × (g .count + length leaves / 32 ≤ largestSize))
+        (answered H g (ofLeaves leaves) .number ≡ 0) ↔
+        ((length leaves % 32 ≡ 0) × (length leaves / 32 ≤ mostLeaves) × (g .count + length leaves / 32 ≤ largestSize))
     pub page-first : (page : List ℕ) → mostItem < length page → answered H g (ofPage page) .number ≡ 1
     pub joined-first : (leaves : List ℕ) → (length leaves % 32 ≡ 0 → ⊥) → answered H g (ofLeaves leaves) .number ≡ 10
     pub many-first : (leaves : List ℕ) → mostLeaves < length leaves / 32 → answered H g (ofLeaves leaves) .number ≡ 10
@@ -71,11 +78,14 @@ module _ (H : List ℕ → List ℕ) where
   -- what the builders build of the leaves taken, the verdicts accept under the growing tree's root and count, and between two of its moments
   pub record Shown (calls : List Call) : Type 0 where
     pub inclusion :
-        (place room : ℕ) (w : List ℕ) → inclusionBuilt H (joined (taken H fresh calls)) place room ≡ wrote w →
-        inclusionVerdict H (nodeAt place (joined (taken H fresh calls))) place (final H fresh calls .count) (rootNow H (final H fresh calls)) w ≡ 0
+        (place room : ℕ) (w : List ℕ) → inclusionBuilt H (joined (leavesOf calls)) place room ≡ wrote w →
+        inclusionVerdict H (nodeAt place (joined (leavesOf calls))) place (treeOf calls .count) (rootNow H (treeOf calls)) w ≡ 0
     pub consistency :
-        (more : List Call) (room : ℕ) (w : List ℕ) → consistencyBuilt H (joined (taken H fresh (calls ++ more))) (final H fresh calls .count) room ≡ wrote w →
-        consistencyVerdict H (final H fresh calls .count) (final H fresh (calls ++ more) .count) (rootNow H (final H fresh calls)) (rootNow H (final H fresh (calls ++ more))) w ≡ 0
+        (more : List Call) (room : ℕ) (w : List ℕ) →
+        (let first = treeOf calls in
+        let second = treeOf (calls ++ more) in
+        consistencyBuilt H (joined (leavesOf (calls ++ more))) (first .count) room ≡ wrote w →
+        consistencyVerdict H (first .count) (second .count) (rootNow H first) (rootNow H second) w ≡ 0)
 
   abbrev pub ShownAll : Type 0
   ShownAll = (calls : List Call) → Shown calls
@@ -90,5 +100,5 @@ module _ (H : List ℕ → List ℕ) where
   -- two growing trees with one count and one root have the same leaves, or a collision is found
   abbrev pub SameLeaves : Type 0
   SameLeaves =
-      (calls others : List Call) → final H fresh calls .count ≡ final H fresh others .count → rootNow H (final H fresh calls) ≡ rootNow H (final H fresh others) →
-      (taken H fresh calls ≡ taken H fresh others) ⊎ Collision
+      (calls others : List Call) → treeOf calls .count ≡ treeOf others .count → rootNow H (treeOf calls) ≡ rootNow H (treeOf others) →
+      (leavesOf calls ≡ leavesOf others) ⊎ Collision
