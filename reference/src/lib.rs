@@ -6,6 +6,7 @@ pub mod carry;
 pub mod counts;
 pub mod growing;
 pub mod item;
+pub mod pace;
 pub mod proofs;
 pub mod random;
 pub mod requests;

@@ -3,16 +3,17 @@
 //!   run LAYER SEED COUNT   write random requests to standard output
 //!   full LAYER             write the large run's requests to standard output
 //!   answer                 read requests from standard input, write the answers
+//!   pace                   read jobs from standard input, write what the program `pace` must answer
 //!   talk PROGRAM           talk to a program that answers requests: line by line, with lines too long and cut off
 //!   counts PROGRAM SEED    compare the counts of nodes that a program answers, 15 million of them
 
 use reference::requests::{self, Requests, LAYERS};
-use reference::{counts, talk};
+use reference::{counts, pace, talk};
 use std::io::{self, BufRead, BufWriter, Write};
 use std::path::Path;
 use std::process::ExitCode;
 
-const USAGE: &str = "usage: reference cases DIR | run LAYER SEED COUNT | full LAYER | answer | talk PROGRAM | counts PROGRAM SEED";
+const USAGE: &str = "usage: reference cases DIR | run LAYER SEED COUNT | full LAYER | answer | pace | talk PROGRAM | counts PROGRAM SEED";
 
 fn main() -> ExitCode {
     let arguments: Vec<String> = std::env::args().skip(1).collect();
@@ -45,6 +46,7 @@ fn run(arguments: &[&str]) -> Option<io::Result<()>> {
             Some(out.flush())
         }
         ["answer"] => Some(write_answers(&mut io::stdin().lock(), &mut out)),
+        ["pace"] => Some(pace::pace(&mut io::stdin().lock(), &mut out)),
         ["talk", program] => Some(talk::talk(program)),
         ["counts", program, seed] => Some(counts::counts(program, seed.parse().ok()?, &mut out)),
         _ => None,

@@ -1,11 +1,12 @@
 //! Times the proved hash beside the plain algorithm in C (gcc -O3) and Rust
 //! (release), and OpenSSL: one machine, one run, the contestants in turn.
 //! A ratio is the plain time divided by ours: above 1, ours is faster. Then the
-//! tree and the items, each beside one other way, and the verdicts beside those of
-//! an earlier library where the build was given one.
+//! tree and the items, each beside one other way, the growing tree, and the verdicts
+//! beside those of an earlier library where the build was given one.
 
 mod before;
 mod contestants;
+mod growing;
 mod library;
 mod openssl;
 mod pairs;
@@ -217,5 +218,6 @@ fn main() {
     others.into_iter().for_each(OtherProcess::end);
     println!();
     pairs::print_table();
+    growing::print_table();
     before::print_table();
 }

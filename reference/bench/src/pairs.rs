@@ -34,7 +34,7 @@ struct Pair {
     target: Target,
 }
 
-fn node(left: &Hash, right: &Hash) -> Hash {
+pub fn node(left: &Hash, right: &Hash) -> Hash {
     let mut out = [0; 32];
     assert_eq!(unsafe { mta_node(left.as_ptr(), 32, right.as_ptr(), 32, out.as_mut_ptr(), 32) }, 0);
     out
