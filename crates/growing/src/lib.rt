@@ -52,7 +52,7 @@ pub fn root(g: Growing) -> Digest
     root_of(g)
 }
 
-// Writes the root. 9: the output has fewer than 32 bytes.
+// Writes the root. 9: the output has fewer than 32 bytes. The root is made before that is asked: a digest is known to have 32 bytes.
 pub fn root_into(g: Growing, out: &mut [u8]) -> Built
     ensures { λ r. ⌜ building r ≡ report (rootInto sha256 g (length (now (out .entry)))) ⌝ }
     ensures { λ _. ⌜ now (out .exit) ≡ output (rootInto sha256 g (length (now (out .entry)))) (now (out .entry)) ⌝ }
