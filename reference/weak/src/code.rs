@@ -6,6 +6,7 @@ use reference::tree::Hash;
 
 /// Each public function of the translated crates; one more is a failure of the run until it is compared too.
 pub const COMPARED: &[&str] = &[
+    "tree::build::bad_leaves",
     "tree::build::root_of",
     "tree::build::root",
     "tree::build::inclusion_path",
@@ -64,6 +65,7 @@ pub trait Code: Sync {
     fn equals(&self, hash: &Hash, bytes: &[u8]) -> bool;
     fn yielded_root(&self, leaf: &Hash, place: u64, size: u64, path: &[u8]) -> Hash;
     fn yielded_roots(&self, known_root: &Hash, first: u64, second: u64, known: bool, path: &[u8]) -> (Hash, Hash);
+    fn bad_leaves(&self, leaves: &[u8]) -> bool;
     fn root_of(&self, leaves: &[u8]) -> (u64, Hash);
     fn root(&self, leaves: &[u8], out: &mut [u8]) -> Wrote;
     fn inclusion_path(&self, leaves: &[u8], place: u64, out: &mut [u8]) -> Wrote;

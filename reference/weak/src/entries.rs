@@ -66,6 +66,10 @@ impl crate::code::Code for Entries {
         (roots.old.bytes, roots.new.bytes)
     }
 
+    fn bad_leaves(&self, leaves: &[u8]) -> bool {
+        tree::build::bad_leaves(leaves)
+    }
+
     fn root_of(&self, leaves: &[u8]) -> (u64, [u8; 32]) {
         let hashed = tree::build::root_of(leaves);
         (hashed.number.into(), hashed.digest.bytes)

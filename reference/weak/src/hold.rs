@@ -7,7 +7,7 @@ use reference::auditor::{self, Dispute, Offer, PageCall, Settled, Stored};
 use reference::carry::{self, consistency_places, full_subtree, inclusion_places, parts, Carried, Compared, Known, Leaves, PAIR};
 use reference::item::LONGEST_ITEM;
 use reference::random::Random;
-use reference::tree::{self, hashes, leaf_hash, Hash};
+use reference::tree::{self, hashes, leaf_hash, Hash, MOST_LEAVES};
 use reference::verdict::{self, Consistency, Inclusion};
 use reference::yields;
 use std::cell::Cell;
@@ -420,9 +420,24 @@ impl<'a> Hold<'a> {
         self.same(entry, (answer, after), found, (of, out));
     }
 
+    /// By the length alone.
+    pub fn bad_leaves(&mut self, leaves: &[u8]) {
+        let (count, rest) = (leaves.len() as u64 / 32, leaves.len() % 32);
+        let what = match () {
+            _ if rest != 0 => "true of a hash that is not whole",
+            _ if count > MOST_LEAVES => "true of more than 2^32 hashes",
+            _ if count == MOST_LEAVES => "false of 2^32 hashes",
+            _ => "false of fewer hashes",
+        };
+        self.kind("bad leaves", what);
+        let code = self.code;
+        self.same("bad leaves", rest != 0 || count > MOST_LEAVES, tried(|| code.bad_leaves(leaves)), leaves.len());
+    }
+
     /// All builders over one list.
     pub fn builders(&mut self, leaves: &[u8], place: u64, first: u64, out: &[u8]) {
         let code = self.code;
+        self.bad_leaves(leaves);
         self.built("root", out, leaves, |out| tree::build_root(weak, leaves, out), |out| code.root(leaves, out));
         let path = |out: &mut [u8]| tree::build_path(weak, leaves, place, out);
         self.built("inclusion path", out, leaves, path, |out| code.inclusion_path(leaves, place, out));

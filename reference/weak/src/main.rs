@@ -11,6 +11,7 @@ mod texts;
 /// The build's, tried here on texts.
 #[allow(dead_code)]
 mod translate;
+mod zeros;
 mod variants {
     include!(concat!(env!("OUT_DIR"), "/variants.rs"));
 }
@@ -24,6 +25,7 @@ use reference::random::Random;
 use reference::servers::{spoil, Server, KINDS};
 use reference::yields;
 use std::path::Path;
+use zeros::{zeros, MOST};
 
 /// How many bits of the hash are kept, in turn: one value, 2, 4, 8, 16, 64.
 const BITS: [u32; 6] = [0, 1, 2, 3, 4, 6];
@@ -218,10 +220,18 @@ fn long_pages(hold: &mut Hold, random: &mut Random) {
     }
 }
 
+/// Joined hashes next to 2^32, once.
+fn most_leaves(hold: &mut Hold) {
+    for length in [MOST - 32, MOST - 1, MOST, MOST + 1, MOST + 31, MOST + 32, MOST + 64] {
+        hold.bad_leaves(&zeros()[..length]);
+    }
+}
+
 /// All rounds; where a wrong program is sought, up to its first fault.
 fn rounds(code: &dyn Code, seed: u64, count: u64, is_sought: bool) -> Hold<'_> {
     let random = &mut Random::new(seed);
     let mut hold = Hold::new(code);
+    most_leaves(&mut hold);
     for turn in 0..count {
         given::keep(BITS[turn as usize % BITS.len()]);
         compare_round(&mut hold, random);
