@@ -2,10 +2,12 @@
 
 use reference::auditor::{Dispute, Offer, PageCall, Settled, Stored};
 use reference::carry::{Carried, Compared};
+use reference::growing::Growing;
 use reference::tree::Hash;
 
 /// Each public function of the translated crates; one more is a failure of the run until it is compared too.
 pub const COMPARED: &[&str] = &[
+    "tree::build::bad_leaves",
     "tree::build::root_of",
     "tree::build::root",
     "tree::build::inclusion_path",
@@ -20,6 +22,11 @@ pub const COMPARED: &[&str] = &[
     "tree::split::cut",
     "tree::yields::yielded_root",
     "tree::yields::yielded_roots",
+    "growing::new",
+    "growing::add::add_page",
+    "growing::add::add_leaves",
+    "growing::root",
+    "growing::root_into",
     "carry::forward::carry",
     "carry::compare::compare",
     "auditor::empty",
@@ -64,12 +71,18 @@ pub trait Code: Sync {
     fn equals(&self, hash: &Hash, bytes: &[u8]) -> bool;
     fn yielded_root(&self, leaf: &Hash, place: u64, size: u64, path: &[u8]) -> Hash;
     fn yielded_roots(&self, known_root: &Hash, first: u64, second: u64, known: bool, path: &[u8]) -> (Hash, Hash);
+    fn bad_leaves(&self, leaves: &[u8]) -> bool;
     fn root_of(&self, leaves: &[u8]) -> (u64, Hash);
     fn root(&self, leaves: &[u8], out: &mut [u8]) -> Wrote;
     fn inclusion_path(&self, leaves: &[u8], place: u64, out: &mut [u8]) -> Wrote;
     fn consistency_path(&self, leaves: &[u8], first: u64, out: &mut [u8]) -> Wrote;
     fn inclusion_verdict(&self, leaf: &[u8], place: u64, size: u64, root: &[u8], path: &[u8]) -> u64;
     fn consistency_verdict(&self, first: u64, second: u64, old: &[u8], new: &[u8], path: &[u8]) -> u64;
+    fn new_tree(&self) -> Growing;
+    fn add_page(&self, tree: &Growing, page: &[u8]) -> (u64, Growing);
+    fn add_leaves(&self, tree: &Growing, leaves: &[u8]) -> (u64, Growing);
+    fn growing_root(&self, tree: &Growing) -> Hash;
+    fn growing_root_into(&self, tree: &Growing, out: &mut [u8]) -> Wrote;
     fn carry(&self, one: &Step, out: &mut [u8], pair: &mut [u8]) -> Result<Carried, u64>;
     fn compare(&self, one: &Two, pair: &mut [u8]) -> Result<Compared, u64>;
     fn empty(&self) -> Stored;

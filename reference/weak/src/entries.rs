@@ -13,6 +13,18 @@ fn wrote(built: tree::build::Built) -> crate::code::Wrote {
     }
 }
 
+fn growing_tree(of: &reference::growing::Growing) -> growing::Growing {
+    growing::Growing { hashes: of.hashes.map(|bytes| hash::Digest { bytes }), count: of.count }
+}
+
+fn tree_of(of: growing::Growing) -> reference::growing::Growing {
+    reference::growing::Growing { hashes: of.hashes.map(|hash| hash.bytes), count: of.count }
+}
+
+fn grown(of: growing::Grown) -> (u64, reference::growing::Growing) {
+    (of.number.into(), tree_of(of.after))
+}
+
 fn record(of: &reference::auditor::Stored) -> auditor::Record {
     auditor::Record { held: of.held, id: of.id, idlen: of.id_length as usize, timestamp: of.timestamp, size: of.size, root: of.root }
 }
@@ -66,6 +78,10 @@ impl crate::code::Code for Entries {
         (roots.old.bytes, roots.new.bytes)
     }
 
+    fn bad_leaves(&self, leaves: &[u8]) -> bool {
+        tree::build::bad_leaves(leaves)
+    }
+
     fn root_of(&self, leaves: &[u8]) -> (u64, [u8; 32]) {
         let hashed = tree::build::root_of(leaves);
         (hashed.number.into(), hashed.digest.bytes)
@@ -89,6 +105,26 @@ impl crate::code::Code for Entries {
 
     fn consistency_verdict(&self, first: u64, second: u64, old: &[u8], new: &[u8], path: &[u8]) -> u64 {
         tree::verdict::consistency_verdict(first, second, old, new, path).into()
+    }
+
+    fn new_tree(&self) -> reference::growing::Growing {
+        tree_of(growing::new())
+    }
+
+    fn add_page(&self, tree: &reference::growing::Growing, page: &[u8]) -> (u64, reference::growing::Growing) {
+        grown(growing::add::add_page(growing_tree(tree), page))
+    }
+
+    fn add_leaves(&self, tree: &reference::growing::Growing, leaves: &[u8]) -> (u64, reference::growing::Growing) {
+        grown(growing::add::add_leaves(growing_tree(tree), leaves))
+    }
+
+    fn growing_root(&self, tree: &reference::growing::Growing) -> [u8; 32] {
+        growing::root(growing_tree(tree)).bytes
+    }
+
+    fn growing_root_into(&self, tree: &reference::growing::Growing, out: &mut [u8]) -> crate::code::Wrote {
+        wrote(growing::root_into(growing_tree(tree), out))
     }
 
     fn carry(&self, one: &crate::code::Step, out: &mut [u8], pair: &mut [u8]) -> Result<reference::carry::Carried, u64> {

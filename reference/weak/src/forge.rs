@@ -143,7 +143,7 @@ pub fn step(random: &mut Random) -> Step {
     Step { leaf, place, first, second, old, new, path: path.concat(), proof: nodes.concat() }
 }
 
-fn some_page(random: &mut Random) -> Vec<u8> {
+pub fn some_page(random: &mut Random) -> Vec<u8> {
     let length = random.below(4) as usize;
     random.bytes(length)
 }

@@ -5,14 +5,15 @@ use crate::code::{Code, Step, Two, Wrote};
 use crate::given::weak;
 use reference::auditor::{self, Dispute, Offer, PageCall, Settled, Stored};
 use reference::carry::{self, consistency_places, full_subtree, inclusion_places, parts, Carried, Compared, Known, Leaves, PAIR};
+use reference::growing::{self, Call, Growing, Grown, LEVELS};
 use reference::item::LONGEST_ITEM;
 use reference::random::Random;
-use reference::tree::{self, hashes, leaf_hash, Hash};
+use reference::tree::{self, hashes, leaf_hash, Hash, MOST_LEAVES};
 use reference::verdict::{self, Consistency, Inclusion};
 use reference::yields;
 use std::cell::Cell;
 use std::collections::BTreeMap;
-use std::fmt::Debug;
+use std::fmt::{Debug, Formatter};
 use std::panic::{catch_unwind, AssertUnwindSafe};
 
 thread_local! {
@@ -75,6 +76,29 @@ fn room(length: usize, needed: usize) -> &'static str {
         std::cmp::Ordering::Less => "shorter",
         std::cmp::Ordering::Equal => "exact",
         std::cmp::Ordering::Greater => "longer",
+    }
+}
+
+/// Nobody reads a page of 32 MB.
+struct Short<'a>(&'a [u8]);
+
+impl Debug for Short<'_> {
+    fn fmt(&self, to: &mut Formatter) -> std::fmt::Result {
+        if self.0.len() > 4000 {
+            return write!(to, "{} bytes", self.0.len());
+        }
+        self.0.fmt(to)
+    }
+}
+
+/// How far up the leaf goes that merges most, of so many more.
+fn levels_up(count: u64, more: u64) -> &'static str {
+    match (count..count + more).map(u64::trailing_ones).max() {
+        None => "no leaf",
+        Some(0) => "no level up",
+        Some(1) => "one level up",
+        Some(32) => "all levels up",
+        Some(_) => "several levels up",
     }
 }
 
@@ -288,16 +312,14 @@ impl<'a> Hold<'a> {
         for what in Self::ends(one, answer, pair.len()) {
             self.kind("dispute", what);
         }
-        // Nobody reads a page of 32 MB.
-        let short = |bytes: &[u8]| if bytes.len() > 4000 { format!("{} bytes", bytes.len()) } else { format!("{bytes:?}") };
         let of = (
             &one.first.place,
-            short(&one.first.page),
+            Short(&one.first.page),
             &one.first.path,
             one.size,
             &one.root,
             &one.heads,
-            short(&one.second_page),
+            Short(&one.second_page),
             &one.second_path,
         );
         self.same("dispute", (answer, after), found, (of, pair));
@@ -397,7 +419,14 @@ impl<'a> Hold<'a> {
         }
     }
 
-    fn built(&mut self, entry: &str, out: &[u8], of: &[u8], expected: impl Fn(&mut [u8]) -> Wrote, found: impl Fn(&mut [u8]) -> Wrote) {
+    fn built(
+        &mut self,
+        entry: &str,
+        out: &[u8],
+        of: impl Debug,
+        expected: impl Fn(&mut [u8]) -> Wrote,
+        found: impl Fn(&mut [u8]) -> Wrote,
+    ) {
         let mut after = out.to_vec();
         let answer = expected(&mut after);
         let found = tried(|| {
@@ -420,9 +449,24 @@ impl<'a> Hold<'a> {
         self.same(entry, (answer, after), found, (of, out));
     }
 
+    /// By the length alone.
+    pub fn bad_leaves(&mut self, leaves: &[u8]) {
+        let (count, rest) = (leaves.len() as u64 / 32, leaves.len() % 32);
+        let what = match () {
+            _ if rest != 0 => "true of a hash that is not whole",
+            _ if count > MOST_LEAVES => "true of more than 2^32 hashes",
+            _ if count == MOST_LEAVES => "false of 2^32 hashes",
+            _ => "false of fewer hashes",
+        };
+        self.kind("bad leaves", what);
+        let code = self.code;
+        self.same("bad leaves", rest != 0 || count > MOST_LEAVES, tried(|| code.bad_leaves(leaves)), leaves.len());
+    }
+
     /// All builders over one list.
     pub fn builders(&mut self, leaves: &[u8], place: u64, first: u64, out: &[u8]) {
         let code = self.code;
+        self.bad_leaves(leaves);
         self.built("root", out, leaves, |out| tree::build_root(weak, leaves, out), |out| code.root(leaves, out));
         let path = |out: &mut [u8]| tree::build_path(weak, leaves, place, out);
         self.built("inclusion path", out, leaves, path, |out| code.inclusion_path(leaves, place, out));
@@ -457,6 +501,103 @@ impl<'a> Hold<'a> {
             self.counts(other, n);
             self.counts(n, other);
         }
+    }
+
+    // The growing tree.
+
+    pub fn new_tree(&mut self) {
+        let code = self.code;
+        self.same("new tree", Growing::NEW, tried(|| code.new_tree()), ());
+    }
+
+    pub fn add_page(&mut self, tree: &Growing, page: &[u8]) -> Growing {
+        let code = self.code;
+        let found = tried(|| code.add_page(tree, page));
+        self.added("growing page", tree, page, 1, tree.page(weak, page), found)
+    }
+
+    pub fn add_leaves(&mut self, tree: &Growing, joined: &[u8]) -> Growing {
+        let code = self.code;
+        let found = tried(|| code.add_leaves(tree, joined));
+        self.added("growing leaves", tree, joined, joined.len() as u64 / 32, tree.leaves(weak, joined), found)
+    }
+
+    /// A call that would add so many leaves: the tree after it.
+    fn added(
+        &mut self,
+        entry: &str,
+        tree: &Growing,
+        given: &[u8],
+        more: u64,
+        (number, after): (u64, Growing),
+        found: Option<(u64, Growing)>,
+    ) -> Growing {
+        assert!(number == 0 || after == *tree, "a refusal changes no tree");
+        let has_room = tree.count.checked_add(more).is_some_and(|sum| sum <= MOST_LEAVES);
+        let what = match number {
+            0 if more == 0 && tree.count == MOST_LEAVES => "no leaf taken by a full tree".to_string(),
+            0 => format!("taken, {}", levels_up(tree.count, more)),
+            6 if more == 0 => "refused with 6 for no leaf".to_string(),
+            10 if more > MOST_LEAVES && given.len() % 32 == 0 => "refused with 10 for more than 2^32 hashes".to_string(),
+            1 | 10 if !has_room => format!("refused with {number} before 6"),
+            _ => format!("refused with {number}"),
+        };
+        self.kind(entry, what);
+        // The counts first: what is shown is cut.
+        let shown = |(number, tree): (u64, Growing)| (number, tree.count, tree.hashes);
+        self.same(entry, shown((number, after.clone())), found.map(shown), (tree.count, Short(given), tree.hashes));
+        after
+    }
+
+    /// The root, by value and into a buffer.
+    pub fn growing_root(&mut self, tree: &Growing, out: &[u8]) {
+        let counting = (0..LEVELS).filter(|level| tree.count >> level & 1 == 1).count();
+        let what = match counting {
+            0 if tree.count > 0 => "of no hash that counts",
+            0 => "of no leaf",
+            1 => "of one hash",
+            2 => "of two hashes",
+            LEVELS => "of all hashes",
+            _ => "of more hashes",
+        };
+        self.kind("growing root", what);
+        let code = self.code;
+        self.same("growing root", tree.root(weak), tried(|| code.growing_root(tree)), tree);
+        self.built("growing root", out, tree, |out| tree.root_into(weak, out), |out| code.growing_root_into(tree, out));
+    }
+
+    /// A list of calls from a new tree, each given the tree that the code itself returned, and the root after each: the tree at the end.
+    pub fn grow(&mut self, calls: &[Call]) -> Growing {
+        let code = self.code;
+        let found = tried(|| {
+            let (mut told, mut tree) = (Vec::new(), code.new_tree());
+            for call in calls {
+                let (number, after) = match call {
+                    Call::Page(page) => code.add_page(&tree, page),
+                    Call::Leaves(joined) => code.add_leaves(&tree, joined),
+                };
+                told.push((number, code.growing_root(&after)));
+                tree = after;
+            }
+            Grown { told, tree }
+        });
+        let expected = growing::grow(weak, calls);
+        let tree = expected.tree.clone();
+        let last_taken = expected.told.iter().rposition(|(number, _)| *number == 0).unwrap_or(0);
+        for number in [1, 10] {
+            if expected.told[..last_taken].iter().any(|told| told.0 == number) {
+                self.kind("growing list", format!("a call taken behind one refused with {number}"));
+            }
+        }
+        if expected.told.iter().all(|told| told.0 == 0) {
+            self.kind("growing list", if tree.count > 0 { "all calls taken" } else { "of no leaves" });
+        }
+        let of = calls.iter().map(|call| match call {
+            Call::Page(page) => ("page", Short(page)),
+            Call::Leaves(joined) => ("leaves", Short(joined)),
+        });
+        self.same("growing list", expected, found, of.collect::<Vec<_>>());
+        tree
     }
 
     // The auditor.

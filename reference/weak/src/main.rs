@@ -1,16 +1,18 @@
-//! weak SEED [COUNT]: the text of tree, carry and auditor, as Rust over a hash of few values, held
-//! against the reference on COUNT rounds of forged proofs. Each kind of collision and of refusal
-//! must come up, each wrong edit must be found, and the translation must refuse what it does not
-//! know. The last line is `N passed, M failed`; the status is not 0 where M is above 0.
+//! weak SEED [COUNT]: the text of tree, growing, carry and auditor, as Rust over a hash of few
+//! values, held against the reference on COUNT rounds of forged proofs and growing trees. Each kind
+//! of collision and of refusal must come up, each wrong edit must be found, and the translation must
+//! refuse what it does not know. The last line is `N passed, M failed`; the status is not 0 where M is above 0.
 
 mod code;
 mod forge;
 mod given;
+mod growing;
 mod hold;
 mod texts;
 /// The build's, tried here on texts.
 #[allow(dead_code)]
 mod translate;
+mod zeros;
 mod variants {
     include!(concat!(env!("OUT_DIR"), "/variants.rs"));
 }
@@ -24,6 +26,7 @@ use reference::random::Random;
 use reference::servers::{spoil, Server, KINDS};
 use reference::yields;
 use std::path::Path;
+use zeros::{zeros, MOST};
 
 /// How many bits of the hash are kept, in turn: one value, 2, 4, 8, 16, 64.
 const BITS: [u32; 6] = [0, 1, 2, 3, 4, 6];
@@ -218,19 +221,32 @@ fn long_pages(hold: &mut Hold, random: &mut Random) {
     }
 }
 
+/// Joined hashes next to 2^32, once.
+fn most_leaves(hold: &mut Hold) {
+    for length in [MOST - 32, MOST - 1, MOST, MOST + 1, MOST + 31, MOST + 32, MOST + 64] {
+        hold.bad_leaves(&zeros()[..length]);
+    }
+}
+
 /// All rounds; where a wrong program is sought, up to its first fault.
 fn rounds(code: &dyn Code, seed: u64, count: u64, is_sought: bool) -> Hold<'_> {
     let random = &mut Random::new(seed);
     let mut hold = Hold::new(code);
+    most_leaves(&mut hold);
+    growing::limits(&mut hold, random);
     for turn in 0..count {
         given::keep(BITS[turn as usize % BITS.len()]);
         compare_round(&mut hold, random);
         carry_round(&mut hold, random);
         dispute_round(&mut hold, random);
         tree_round(&mut hold, random);
+        growing::tree_round(&mut hold, random);
         record_round(&mut hold, random);
         #[cfg(journal)]
         journal_round(&mut hold, random);
+        if turn % 5 == 0 {
+            growing::list_round(&mut hold, random);
+        }
         if turn % 25 == 0 {
             list_round(&mut hold, random);
         }
@@ -240,6 +256,7 @@ fn rounds(code: &dyn Code, seed: u64, count: u64, is_sought: bool) -> Hold<'_> {
     }
     if !is_sought {
         long_pages(&mut hold, random);
+        growing::longest_page(&mut hold, random);
     }
     hold
 }
@@ -293,7 +310,7 @@ fn main() {
         tally.count(COMPARED.contains(name), || format!("public, and not compared: {name}"));
     }
     translation(&mut tally);
-    let is_full = WANTED.lines().count() > 120 && variants::CODES.len() > 20;
+    let is_full = WANTED.lines().count() > 155 && variants::CODES.len() > 25;
     tally.count(is_full, || "kinds or wrong programs are gone".to_string());
 
     let hold = rounds(variants::CODES[0].1, seed, count, false);
