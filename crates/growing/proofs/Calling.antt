@@ -1,15 +1,18 @@
 -- Every list of calls from a new tree: the claims. Over any hash. Assumes nothing.
 use mathlib.Core.Path.{_≡_, refl, sym, ap, ap₂, _∙_}
 use mathlib.Core.Bool.{true, false, cond}
-use mathlib.Core.List.{List, [], _∷_, _++_, append-nil, append-assoc}
+use mathlib.Core.List.{List, [], _∷_, _++_, map, append-nil, append-assoc}
 use Prim.Native.Nat.{ℕ, zero, suc, _+_, _/_, _%_, _^_, _≤_, _<_}
 use native.Mathlib.Omega.{arith}
 use lib.Count.{ones}
 use lib.Dec.{eqb, ltb}
 use lib.ListN.{length, length-append, length-replicate}
 use borrow.Author.Tests.{ne-eqb}
+use Rattle.hash.specs.declared.Digest.{Digest}
 use Rattle.hash.specs.Answers.{mostItem}
 use Rattle.tree.specs.Limits.{largestSize}
+use Rattle.tree.specs.Tree.{leaf, root, mth}
+use Rattle.tree.specs.Joined.{nodes}
 use Rattle.tree.specs.Full.{together}
 use Rattle.tree.specs.Build.{unfit}
 use Rattle.tree.proofs.Joining.{nodes-length}
@@ -19,7 +22,7 @@ use Rattle.growing.specs.declared.Grown.{Grown}
 use Rattle.growing.specs.Limits.{mostHashes}
 use Rattle.growing.specs.Hashes.{digest, nothing, fresh, counting, withLeaf, withLeaves}
 use Rattle.growing.specs.Calls.{Call, ofPage, ofLeaves, roomNumber, callNumber, brought, answered, final, taken, allBrought, AllAccepted}
-use Rattle.growing.specs.Claims.{Follows, FollowsAll, HoweverCut, AllTaken, RefusedUnchanged}
+use Rattle.growing.specs.Claims.{Follows, FollowsAll, HoweverCut, AllTaken, RefusedUnchanged, Takes}
 use Rattle.growing.proofs.Holding.{Holds, holds-none, holds-more, holds-full, holds-at, holds-zeros, carried-length, length-snoc}
 use Rattle.growing.proofs.Stepping.{root-now-of}
 use Rattle.growing.proofs.Adding.{given, room-fits, refused, accepted, with-append, with-count}
@@ -107,7 +110,7 @@ module _ (H : List ℕ → List ℕ) where
         ones-count = ap length f ∙ full-bits H l ∙ ap ones (sym (p .counted));
         levels = p .levels;
         at = λ i odd. holds-at H i (g .hashes) l (p .held) odd;
-        zeros = λ i even. holds-zeros H i (g .hashes) l (p .held) even;
+        zeros = λ i even. ap (λ (d : Digest). d .bytes) (holds-zeros H i (g .hashes) l (p .held) even);
         one-by-one = e;
       }
 
@@ -132,3 +135,27 @@ module _ (H : List ℕ → List ℕ) where
   pub refused-unchanged : RefusedUnchanged H
   unfolding answered
   refused-unchanged g c n e = ap (λ (o : Grown). o .after) (refused H g c n e)
+
+  -- ---- what pages and joined hashes bring
+
+  pages-brought : (pages : List (List ℕ)) → allBrought H (map ofPage pages) ≡ map (leaf H) pages
+  unfolding allBrought brought
+  pages-brought [] = refl
+  pages-brought (p ∷ pages) = ap (λ (l : List (List ℕ)). leaf H p ∷ l) (pages-brought pages)
+
+  leaves-brought : (leaves : List ℕ) → allBrought H (ofLeaves leaves ∷ []) ≡ nodes leaves
+  unfolding allBrought brought
+  leaves-brought leaves = append-nil (nodes leaves)
+
+  pub pages-taken : (pages : List (List ℕ)) → AllAccepted H fresh (map ofPage pages) → taken H fresh (map ofPage pages) ≡ map (leaf H) pages
+  pages-taken pages a = all-taken fresh (map ofPage pages) a ∙ pages-brought pages
+
+  pub leaves-taken : (leaves : List ℕ) → AllAccepted H fresh (ofLeaves leaves ∷ []) → taken H fresh (ofLeaves leaves ∷ []) ≡ nodes leaves
+  leaves-taken leaves a = all-taken fresh (ofLeaves leaves ∷ []) a ∙ leaves-brought leaves
+
+  pub takes : Takes H
+  unfolding mth
+  takes = record {
+    pages = λ pages a. follows-all (map ofPage pages) .root-of-all ∙ ap (root H) (pages-taken pages a);
+    leaves = λ leaves a. follows-all (ofLeaves leaves ∷ []) .root-of-all ∙ ap (root H) (leaves-taken leaves a);
+  }

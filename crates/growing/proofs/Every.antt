@@ -2,7 +2,7 @@
 -- prove them. Assumes nothing.
 use mathlib.Core.Path.{_≡_, refl, sym, ap, _∙_}
 use mathlib.Core.List.{List, [], _∷_}
-use Prim.Native.Nat.{ℕ, suc, _≤_}
+use Prim.Native.Nat.{ℕ, suc, _≤_, _<_}
 use native.Mathlib.Omega.{arith}
 use contract.Lifetimes.{Lfts}
 use denote.Ref.{RefT}
@@ -10,11 +10,12 @@ use lib.ListN.{length}
 use Rattle.hash.specs.Digest.{sha256}
 use Rattle.hash.specs.declared.Digest.{Digest}
 use Rattle.hash.proofs.Promises.{sha256-length}
-use Rattle.sha256.specs.Told.{done}
+use Rattle.sha256.specs.Told.{done, refused}
 use Rattle.tree.specs.declared.build.Built.{Built}
 use Rattle.tree.specs.Tree.{root}
 use Rattle.tree.specs.Build.{Outcome, wrote, building, report, over, output, into}
-use Rattle.tree.proofs.Building.{long}
+use Rattle.tree.specs.Build as Build
+use Rattle.tree.proofs.Building.{short, long}
 use Rattle.tree.proofs.Completing.{root-32}
 use Rattle.growing.specs.declared.Growing.{Growing}
 use Rattle.growing.specs.declared.Grown.{Grown}
@@ -72,6 +73,17 @@ every-root-into start end calls κs out out′ b s run p h =
     let o : rootInto sha256 end (length (out .now)) ≡ wrote r =
     root-into-of sha256 end (length (out .now)) ∙ ap (into (length (out .now))) (every start end calls s run .root-of-all) ∙ long (length (out .now)) r (omega arith) in
     (p .0 ∙ ap report o ∙ ap done w, p .1 ∙ ap (λ (x : Outcome). output x (out .now)) o)
+
+pub every-root-refused :
+    (start end : Growing) (calls : List Call) (κs : Lfts 1) (out out′ : RefT (List ℕ)) (b : Built) → new-reads.Learnt tt tt start tt → Run start calls end →
+    root-into-reads.Learnt κs (end, (out, tt)) b (end, (out′, tt)) → length (out .now) < 32 → (building b ≡ refused 9) × (out′ .now ≡ out .now)
+unfolding report output
+every-root-refused start end calls κs out out′ b s run p h =
+    let r = root sha256 (taken sha256 fresh calls) in
+    let w : length r ≡ 32 = root-32 sha256 sha256-length (taken sha256 fresh calls) (taken-32 sha256 sha256-length fresh calls) in
+    let o : rootInto sha256 end (length (out .now)) ≡ Build.refused 9 =
+    root-into-of sha256 end (length (out .now)) ∙ ap (into (length (out .now))) (every start end calls s run .root-of-all) ∙ short (length (out .now)) r (omega arith) in
+    (p .0 ∙ ap report o, p .1 ∙ ap (λ (x : Outcome). output x (out .now)) o)
 
 -- two runs that took the same leaves end in the same tree
 pub every-cut :

@@ -3,7 +3,7 @@
 use mathlib.Core.Path.{_≡_, refl, sym, ap, ap₂, _∙_}
 use mathlib.Core.Logic.{_⊎_, inl, inr, ⊎-elim}
 use mathlib.Core.Bool.{Bool, true, false, false≢true, cond}
-use mathlib.Core.List.{List, [], _∷_, _++_, append-nil, append-assoc}
+use mathlib.Core.List.{List, [], _∷_, _++_, map, append-assoc}
 use Prim.Native.Nat.{ℕ, _-_, _/_, _<_}
 use native.Mathlib.Omega.{arith}
 use lib.Dec.{eqb}
@@ -23,8 +23,8 @@ use Rattle.tree.proofs.Building.{complete}
 use Rattle.growing.specs.declared.Growing.{Growing}
 use Rattle.growing.specs.Hashes.{fresh, rootNow}
 use Rattle.growing.specs.Calls.{Call, ofPage, ofLeaves, brought, answered, final, taken}
-use Rattle.growing.specs.Claims.{ShownAll, Collision, SameLeaves}
-use Rattle.growing.proofs.Calling.{follows-all}
+use Rattle.growing.specs.Claims.{PagesOrJoined, ShownAll, Collision, SameLeaves}
+use Rattle.growing.proofs.Calling.{follows-all, however-cut, pages-taken, leaves-taken}
 
 module _ (H : List ℕ → List ℕ) where
   -- a list of calls in two parts
@@ -86,6 +86,17 @@ module _ (H : List ℕ → List ℕ) where
       consistency = λ more room w e.
           rw (count-of (calls ++ more), root-of (calls ++ more), earlier calls more) at (complete H H32 .consistency (joined (taken H fresh (calls ++ more))) w (final H fresh calls .count) room e);
     }
+
+    -- the leaf hashes of pages, joined
+    pages-32 : (pages : List (List ℕ)) → All32 (map (leaf H) pages)
+    unfolding All32 leaf
+    pages-32 [] = tt
+    pages-32 (p ∷ pages) = (H32 (0 ∷ p), pages-32 pages)
+
+    pub pages-or-joined : PagesOrJoined H
+    pages-or-joined pages a b =
+        however-cut H (map ofPage pages) (ofLeaves (joined (map (leaf H) pages)) ∷ [])
+        (pages-taken H pages a ∙ sym (leaves-taken H (joined (map (leaf H) pages)) b ∙ nodes-joined (map (leaf H) pages) (pages-32 pages)))
 
     -- ---- one root of one count
 

@@ -2,14 +2,14 @@
 -- Assumes nothing: these are statements.
 use mathlib.Core.Path.{_≡_}
 use mathlib.Core.Logic.{_↔_, _⊎_}
-use mathlib.Core.List.{List, [], _++_}
+use mathlib.Core.List.{List, [], _∷_, _++_, map}
 use Prim.Native.Nat.{ℕ, suc, _+_, _-_, _*_, _/_, _%_, _^_, _≤_, _<_}
 use lib.Count.{ones}
-use lib.ListN.{length, take, drop, getD}
+use lib.ListN.{length, take, drop, getD, replicate}
 use Rattle.hash.specs.Answers.{mostItem}
 use Rattle.tree.specs.Limits.{largestSize, mostLeaves}
-use Rattle.tree.specs.Tree.{root}
-use Rattle.tree.specs.Joined.{nodeAt, joined}
+use Rattle.tree.specs.Tree.{leaf, root, mth}
+use Rattle.tree.specs.Joined.{nodes, nodeAt, joined}
 use Rattle.tree.specs.Verdict.{inclusionVerdict, consistencyVerdict}
 use Rattle.tree.specs.Build.{wrote, inclusionBuilt, consistencyBuilt}
 use Rattle.tree.specs.Full.{fullRoots}
@@ -34,7 +34,7 @@ module _ (H : List ℕ → List ℕ) where
     pub ones-count : length (counting (g .hashes) (g .count)) ≡ ones (g .count)
     pub levels : length (g .hashes) ≡ mostHashes
     pub at : (i : ℕ) → (length l / 2 ^ i) % 2 ≡ 1 → getD (g .hashes) i nothing .bytes ≡ root H (lastFull i l)
-    pub zeros : (i : ℕ) → (length l / 2 ^ i) % 2 ≡ 0 → getD (g .hashes) i nothing ≡ nothing
+    pub zeros : (i : ℕ) → (length l / 2 ^ i) % 2 ≡ 0 → getD (g .hashes) i nothing .bytes ≡ replicate 32 0
     -- the tree is a function of the leaves
     pub one-by-one : g ≡ withLeaves H fresh l
 
@@ -55,6 +55,17 @@ module _ (H : List ℕ → List ℕ) where
   -- where all are accepted, all that was brought was taken
   abbrev pub AllTaken : Type 0
   AllTaken = (g : Growing) (calls : List Call) → AllAccepted H g calls → taken H g calls ≡ allBrought H calls
+
+  -- pages one by one give the RFC's MTH of the pages, and joined hashes the root of these hashes
+  pub record Takes : Type 0 where
+    pub pages : (pages : List (List ℕ)) → AllAccepted H fresh (map ofPage pages) → rootNow H (treeOf (map ofPage pages)) ≡ mth H pages
+    pub leaves : (leaves : List ℕ) → AllAccepted H fresh (ofLeaves leaves ∷ []) → rootNow H (treeOf (ofLeaves leaves ∷ [])) ≡ root H (nodes leaves)
+
+  -- pages one by one, and their leaf hashes joined in one call: one tree
+  abbrev pub PagesOrJoined : Type 0
+  PagesOrJoined =
+      (pages : List (List ℕ)) → AllAccepted H fresh (map ofPage pages) → AllAccepted H fresh (ofLeaves (joined (map (leaf H) pages)) ∷ []) →
+      treeOf (map ofPage pages) ≡ treeOf (ofLeaves (joined (map (leaf H) pages)) ∷ [])
 
   -- a refusal changes nothing, whatever the tree
   abbrev pub RefusedUnchanged : Type 0

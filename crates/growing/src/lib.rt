@@ -13,7 +13,7 @@ ghost use Rattle.tree.specs.Build.{building, report, output};
 ghost use Rattle.tree.specs.Claims.{OfEvery, OfEvery32};
 ghost use Rattle.growing.specs.Hashes.{fresh, rootNow};
 ghost use Rattle.growing.specs.Calls.{rootInto};
-ghost use Rattle.growing.specs.Claims.{FollowsAll, HoweverCut, AllTaken, RefusedUnchanged, AcceptsAll, ShownAll, SameLeaves};
+ghost use Rattle.growing.specs.Claims.{FollowsAll, HoweverCut, AllTaken, Takes, PagesOrJoined, RefusedUnchanged, AcceptsAll, ShownAll, SameLeaves};
 use hash::Digest;
 use levels::none;
 use levels::root_of;
@@ -71,6 +71,8 @@ pub fn claims()
     ensures follows_all { λ _. ⌜ OfEvery FollowsAll ⌝ }
     ensures however_cut { λ _. ⌜ OfEvery HoweverCut ⌝ }
     ensures all_taken { λ _. ⌜ OfEvery AllTaken ⌝ }
+    ensures takes { λ _. ⌜ OfEvery Takes ⌝ }
+    ensures pages_or_joined { λ _. ⌜ OfEvery32 PagesOrJoined ⌝ }
     ensures refused_unchanged { λ _. ⌜ OfEvery RefusedUnchanged ⌝ }
     ensures accepts_all { λ _. ⌜ OfEvery AcceptsAll ⌝ }
     ensures shown_all { λ _. ⌜ OfEvery32 ShownAll ⌝ }
