@@ -21,7 +21,7 @@ use Rattle.growing.specs.declared.Growing.{Growing}
 use Rattle.growing.specs.declared.Grown.{Grown}
 use Rattle.growing.specs.Hashes.{fresh}
 use Rattle.growing.specs.Calls.{Call, ofPage, ofLeaves, answered, rootInto, final, taken}
-use Rattle.growing.specs.Claims.{Follows}
+use Rattle.growing.specs.Claims.{Follows, RefusedUnchanged, AtSha256}
 use Rattle.growing.proofs.Calling.{follows-all, however-cut, refused-unchanged}
 use Rattle.growing.proofs.Stepping.{root-into-of}
 use Rattle.growing.proofs.Showing.{taken-32}
@@ -103,3 +103,26 @@ every-refused-page g κs page o n p e = unchanged g (ofPage (page .now)) o n p e
 pub every-refused-leaves :
     (g : Growing) (κs : Lfts 1) (leaves : RefT (List ℕ)) (o : Grown) (n : ℕ) → add-leaves-reads.Learnt κs (g, (leaves, tt)) o (g, (leaves, tt)) → o .number ≡ suc n → o .after ≡ g
 every-refused-leaves g κs leaves o n p e = unchanged g (ofLeaves (leaves .now)) o n p e
+
+-- ---- the claims at SHA-256, through the contracts
+
+ref : List ℕ → RefT (List ℕ)
+ref l = record { ptr = (0, 0); name = 0; now = l }
+
+runs : (g : Growing) (calls : List Call) → Run g calls (final sha256 g calls)
+unfolding final ref
+runs g [] = stop
+runs g (ofPage page ∷ calls) = pages ([], tt) (ref page) (answered sha256 g (ofPage page)) refl (runs (answered sha256 g (ofPage page) .after) calls)
+runs g (ofLeaves leaves ∷ calls) = joins ([], tt) (ref leaves) (answered sha256 g (ofLeaves leaves)) refl (runs (answered sha256 g (ofLeaves leaves) .after) calls)
+
+refused-claimed : RefusedUnchanged sha256
+unfolding ref
+refused-claimed g (ofPage page) n e = every-refused-page g ([], tt) (ref page) (answered sha256 g (ofPage page)) n refl e
+refused-claimed g (ofLeaves leaves) n e = every-refused-leaves g ([], tt) (ref leaves) (answered sha256 g (ofLeaves leaves)) n refl e
+
+pub claimed : AtSha256
+claimed = record {
+  follows = λ calls. every fresh (final sha256 fresh calls) calls refl (runs fresh calls);
+  cut = λ calls others e. every-cut fresh (final sha256 fresh calls) fresh (final sha256 fresh others) calls others refl refl (runs fresh calls) (runs fresh others) e;
+  refused = refused-claimed;
+}

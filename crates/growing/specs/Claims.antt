@@ -6,6 +6,7 @@ use mathlib.Core.List.{List, [], _∷_, _++_, map}
 use Prim.Native.Nat.{ℕ, suc, _+_, _-_, _*_, _/_, _%_, _^_, _≤_, _<_}
 use lib.Count.{ones}
 use lib.ListN.{length, take, drop, getD, replicate}
+use Rattle.hash.specs.Digest.{sha256}
 use Rattle.hash.specs.Answers.{mostItem}
 use Rattle.tree.specs.Limits.{largestSize, mostLeaves}
 use Rattle.tree.specs.Tree.{leaf, root, mth}
@@ -113,3 +114,9 @@ module _ (H : List ℕ → List ℕ) where
   SameLeaves =
       (calls others : List Call) → treeOf calls .count ≡ treeOf others .count → rootNow H (treeOf calls) ≡ rootNow H (treeOf others) →
       (leavesOf calls ≡ leavesOf others) ⊎ Collision
+
+-- at SHA-256, of the calls as their contracts have them (proofs/Every)
+pub record AtSha256 : Type 0 where
+  pub follows : FollowsAll sha256
+  pub cut : HoweverCut sha256
+  pub refused : RefusedUnchanged sha256

@@ -13,7 +13,8 @@ ghost use Rattle.tree.specs.Build.{building, report, output};
 ghost use Rattle.tree.specs.Claims.{OfEvery, OfEvery32};
 ghost use Rattle.growing.specs.Hashes.{fresh, rootNow};
 ghost use Rattle.growing.specs.Calls.{rootInto};
-ghost use Rattle.growing.specs.Claims.{FollowsAll, HoweverCut, AllTaken, Takes, PagesOrJoined, RefusedUnchanged, AcceptsAll, ShownAll, SameLeaves};
+ghost use Rattle.growing.specs.Claims.{FollowsAll, HoweverCut, AllTaken, Takes, PagesOrJoined, RefusedUnchanged};
+ghost use Rattle.growing.specs.Claims.{AcceptsAll, ShownAll, SameLeaves, AtSha256};
 use hash::Digest;
 use levels::none;
 use levels::root_of;
@@ -78,4 +79,5 @@ pub fn claims()
     ensures accepts_all { λ _. ⌜ OfEvery AcceptsAll ⌝ }
     ensures shown_all { λ _. ⌜ OfEvery32 ShownAll ⌝ }
     ensures same_leaves { λ _. ⌜ OfEvery32 SameLeaves ⌝ }
+    ensures at_sha256 { λ _. ⌜ AtSha256 ⌝ }
 {}

@@ -1,5 +1,5 @@
-// Does the work whose time reference/bench measures, since no function for C can be handed a growing tree. Each byte of standard input names a job over the
-// same 65,536 leaf hashes. Its answer is 32 bytes that depend on all of the work; zeros, where a call is refused. Any other byte ends the program.
+// Does the work whose time reference/bench measures, since the library for C has no growing tree. Each byte of standard input names a job over the same
+// 65,536 leaf hashes. Its answer is 32 bytes that depend on all of the work; zeros, where a call is refused. Any other byte ends the program.
 use growing::add::add_leaves;
 use hash::Digest;
 use libc::STDIN_FILENO;

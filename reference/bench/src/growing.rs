@@ -1,6 +1,5 @@
-//! The growing tree, by the program `pace`, since a tree cannot be handed over to
-//! the library: each way beside the node hashes that it needs, which `pace` times
-//! too, and beside a frontier in Rust with the same hash code.
+//! The growing tree, by the program `pace`, since the library has none: each way
+//! beside the node hashes that it needs, which `pace` times too, and beside a frontier in Rust with the same hash code.
 
 use crate::pairs::node;
 use crate::{best, median};
