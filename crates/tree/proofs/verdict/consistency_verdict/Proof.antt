@@ -25,81 +25,31 @@ module _ (first second : ℕ) (old path : List ℕ) {x l : List ℕ} where
   pub old-is : x ≡ oldRoot sha256 first second true l (firstNodes (length path / 32) path) → l ≡ hashAt 0 old → length old ≡ 32 → same (oldRoot sha256 first second true old (nodes path)) old ≡ same x old
   old-is e d h = ap (λ (y : List ℕ). same y old) (sym (e ∙ ap₂ (λ (y : List ℕ) (p : List (List ℕ)). oldRoot sha256 first second true y p) (d ∙ whole-hash old h) (sym (nodes-first path))))
 
-returns : tie.Need-returns
-unfolding consistencyVerdict
-returns c = one-5 _ _ _ _ _ _ (omega arith)
-
-returns-2 : tie.Need-returns-2
-unfolding consistencyVerdict
-returns-2 c = two-5 _ _ _ _ _ _ (omega arith) (omega arith)
-
-returns-3 : tie.Need-returns-3
-unfolding consistencyVerdict
-returns-3 c = path-10 _ _ _ _ _ _ (omega arith) (omega arith) (omega arith)
-
-returns-4 : tie.Need-returns-4
-unfolding consistencyVerdict
-returns-4 c = outside-6 _ _ _ _ _ _ (omega arith) (omega arith) (omega arith) (sizes-none _ _ (omega arith))
-
-returns-5 : tie.Need-returns-5
-unfolding consistencyVerdict
-returns-5 c = outside-6 _ _ _ _ _ _ (omega arith) (omega arith) (omega arith) (sizes-past _ _ (omega arith))
-
-subproof-count-requires : tie.Need-subproof-count-requires
-subproof-count-requires c κs = omega arith
-
-returns-6 : tie.Need-returns-6
-unfolding consistencyVerdict consistencyCount
-returns-6 c = count-7 _ _ _ _ _ _ (omega arith) (omega arith) (omega arith) (sizes-in _ _ (omega arith) (omega arith) (omega arith)) (omega arith)
-
-node-at-requires : tie.Need-node-at-requires
-node-at-requires c κs = omega arith
-
-consistency-roots-requires : tie.Need-consistency-roots-requires
-consistency-roots-requires c κs = (omega arith, omega arith, omega arith, omega arith)
-
-equals-requires : tie.Need-equals-requires
-equals-requires c κs = omega arith
-
-returns-7 : tie.Need-returns-7
-unfolding consistencyVerdict consistencyCount
-returns-7 c =
-    let e = c .before .before .before .consistency-roots .ensures in
-    let f = c .before .before .before .before .node-at .ensures in
-    other-8 _ _ _ _ _ _ (omega arith) (omega arith) (omega arith) (sizes-in _ _ (omega arith) (omega arith) (omega arith)) (omega arith) (first-apart _ _ (old-is _ _ _ _ (e .0) f (omega arith) ∙ sym (c .before .equals .ensures) ∙ not-true (c .before .equals .result) (c .if7 .taken)))
-
-equals-requires-2 : tie.Need-equals-requires-2
-equals-requires-2 c κs = omega arith
-
-returns-8 : tie.Need-returns-8
-unfolding consistencyVerdict consistencyCount
-returns-8 c =
-    let e = c .before .before .before .before .before .before .consistency-roots .ensures in
-    let f = c .before .before .before .before .before .before .before .node-at .ensures in
-    other-8 _ _ _ _ _ _ (omega arith) (omega arith) (omega arith) (sizes-in _ _ (omega arith) (omega arith) (omega arith)) (omega arith) (second-apart _ _ (old-is _ _ _ _ (e .0) f (omega arith) ∙ sym (c .before .before .before .before .equals .ensures) ∙ not-false (c .before .before .before .before .equals .result) (c .before .before .before .if7 .left)) (new-is _ _ _ _ _ (e .1) f (omega arith) ∙ sym (c .before .equals2 .ensures) ∙ not-true (c .before .equals2 .result) (c .if8 .taken)))
-
-returns-9 : tie.Need-returns-9
-unfolding consistencyVerdict consistencyCount
-returns-9 c =
-    let e = c .before .before .before .before .before .before .consistency-roots .ensures in
-    let f = c .before .before .before .before .before .before .before .node-at .ensures in
-    right-0 _ _ _ _ _ _ (omega arith) (omega arith) (omega arith) (sizes-in _ _ (omega arith) (omega arith) (omega arith)) (omega arith) (both-agree _ _ (old-is _ _ _ _ (e .0) f (omega arith) ∙ sym (c .before .before .before .before .equals .ensures) ∙ not-false (c .before .before .before .before .equals .result) (c .before .before .before .if7 .left)) (new-is _ _ _ _ _ (e .1) f (omega arith) ∙ sym (c .before .equals2 .ensures) ∙ not-false (c .before .equals2 .result) (c .if8 .left)))
-
 pub consistency-verdict-spec : {M : Type 1} → statement M
+unfolding consistencyVerdict consistencyCount
 consistency-verdict-spec =
     tie.close
     (tie.spec
-    returns
-    returns-2
-    returns-3
-    returns-4
-    returns-5
-    subproof-count-requires
-    returns-6
-    node-at-requires
-    consistency-roots-requires
-    equals-requires
-    returns-7
-    equals-requires-2
-    returns-8
-    returns-9)
+    (λ c. one-5 _ _ _ _ _ _ (omega arith))
+    (λ c. two-5 _ _ _ _ _ _ (omega arith) (omega arith))
+    (λ c. path-10 _ _ _ _ _ _ (omega arith) (omega arith) (omega arith))
+    (λ c. outside-6 _ _ _ _ _ _ (omega arith) (omega arith) (omega arith) (sizes-none _ _ (omega arith)))
+    (λ c. outside-6 _ _ _ _ _ _ (omega arith) (omega arith) (omega arith) (sizes-past _ _ (omega arith)))
+    (λ c κs. omega arith)
+    (λ c. count-7 _ _ _ _ _ _ (omega arith) (omega arith) (omega arith) (sizes-in _ _ (omega arith) (omega arith) (omega arith)) (omega arith))
+    (λ c κs. omega arith)
+    (λ c κs. (omega arith, omega arith, omega arith, omega arith))
+    (λ c κs. omega arith)
+    (λ c.
+    let e = c .before .before .before .consistency-roots .ensures in
+    let f = c .before .before .before .before .node-at .ensures in
+    other-8 _ _ _ _ _ _ (omega arith) (omega arith) (omega arith) (sizes-in _ _ (omega arith) (omega arith) (omega arith)) (omega arith) (first-apart _ _ (old-is _ _ _ _ (e .0) f (omega arith) ∙ sym (c .before .equals .ensures) ∙ not-true (c .before .equals .result) (c .if7 .taken))))
+    (λ c κs. omega arith)
+    (λ c.
+    let e = c .before .before .before .before .before .before .consistency-roots .ensures in
+    let f = c .before .before .before .before .before .before .before .node-at .ensures in
+    other-8 _ _ _ _ _ _ (omega arith) (omega arith) (omega arith) (sizes-in _ _ (omega arith) (omega arith) (omega arith)) (omega arith) (second-apart _ _ (old-is _ _ _ _ (e .0) f (omega arith) ∙ sym (c .before .before .before .before .equals .ensures) ∙ not-false (c .before .before .before .before .equals .result) (c .before .before .before .if7 .left)) (new-is _ _ _ _ _ (e .1) f (omega arith) ∙ sym (c .before .equals2 .ensures) ∙ not-true (c .before .equals2 .result) (c .if8 .taken))))
+    (λ c.
+    let e = c .before .before .before .before .before .before .consistency-roots .ensures in
+    let f = c .before .before .before .before .before .before .before .node-at .ensures in
+    right-0 _ _ _ _ _ _ (omega arith) (omega arith) (omega arith) (sizes-in _ _ (omega arith) (omega arith) (omega arith)) (omega arith) (both-agree _ _ (old-is _ _ _ _ (e .0) f (omega arith) ∙ sym (c .before .before .before .before .equals .ensures) ∙ not-false (c .before .before .before .before .equals .result) (c .before .before .before .if7 .left)) (new-is _ _ _ _ _ (e .1) f (omega arith) ∙ sym (c .before .equals2 .ensures) ∙ not-false (c .before .equals2 .result) (c .if8 .left)))))

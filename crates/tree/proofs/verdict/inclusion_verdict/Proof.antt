@@ -18,67 +18,24 @@ use Rattle.tree.proofs.verdict.inclusion_verdict.Tie as tie
 yielded : (leaf : List ℕ) (place size : ℕ) (root path : List ℕ) {x l : List ℕ} → x ≡ inclusionRoot sha256 place size l (firstNodes (length path / 32) path) → l ≡ hashAt 0 leaf → length leaf ≡ 32 → same (inclusionRoot sha256 place size leaf (nodes path)) root ≡ same x root
 yielded leaf place size root path e d h = ap (λ (x : List ℕ). same x root) (sym (e ∙ ap₂ (λ (y : List ℕ) (p : List (List ℕ)). inclusionRoot sha256 place size y p) (d ∙ whole-hash leaf h) (sym (nodes-first path))))
 
-returns : tie.Need-returns
-unfolding inclusionVerdict
-returns c = one-5 _ _ _ _ _ _ (omega arith)
-
-returns-2 : tie.Need-returns-2
-unfolding inclusionVerdict
-returns-2 c = two-5 _ _ _ _ _ _ (omega arith) (omega arith)
-
-returns-3 : tie.Need-returns-3
-unfolding inclusionVerdict
-returns-3 c = path-10 _ _ _ _ _ _ (omega arith) (omega arith) (omega arith)
-
-returns-4 : tie.Need-returns-4
-unfolding inclusionVerdict
-returns-4 c = outside-6 _ _ _ _ _ _ (omega arith) (omega arith) (omega arith) (place-none _ _ (omega arith))
-
-returns-5 : tie.Need-returns-5
-unfolding inclusionVerdict
-returns-5 c = outside-6 _ _ _ _ _ _ (omega arith) (omega arith) (omega arith) (place-past _ _ (omega arith))
-
-inclusion-count-requires : tie.Need-inclusion-count-requires
-inclusion-count-requires c κs = omega arith
-
-returns-6 : tie.Need-returns-6
-unfolding inclusionVerdict
-returns-6 c = count-7 _ _ _ _ _ _ (omega arith) (omega arith) (omega arith) (place-in _ _ (omega arith) (omega arith) (omega arith)) (omega arith)
-
-node-at-requires : tie.Need-node-at-requires
-node-at-requires c κs = omega arith
-
-inclusion-root-requires : tie.Need-inclusion-root-requires
-inclusion-root-requires c κs = omega arith
-
-equals-requires : tie.Need-equals-requires
-equals-requires c κs = omega arith
-
-returns-7 : tie.Need-returns-7
-unfolding inclusionVerdict
-returns-7 c =
-    let y = yielded _ _ _ _ _ (c .before .before .inclusion-root .ensures) (c .before .before .before .node-at .ensures) (omega arith) in
-    other-8 _ _ _ _ _ _ (omega arith) (omega arith) (omega arith) (place-in _ _ (omega arith) (omega arith) (omega arith)) (omega arith) (y ∙ sym (c .before .equals .ensures) ∙ not-true (c .before .equals .result) (c .if7 .taken))
-
-returns-8 : tie.Need-returns-8
-unfolding inclusionVerdict
-returns-8 c =
-    let y = yielded _ _ _ _ _ (c .before .before .inclusion-root .ensures) (c .before .before .before .node-at .ensures) (omega arith) in
-    right-0 _ _ _ _ _ _ (omega arith) (omega arith) (omega arith) (place-in _ _ (omega arith) (omega arith) (omega arith)) (omega arith) (y ∙ sym (c .before .equals .ensures) ∙ not-false (c .before .equals .result) (c .if7 .left))
-
 pub inclusion-verdict-spec : {M : Type 1} → statement M
+unfolding inclusionVerdict
 inclusion-verdict-spec =
     tie.close
     (tie.spec
-    returns
-    returns-2
-    returns-3
-    returns-4
-    returns-5
-    inclusion-count-requires
-    returns-6
-    node-at-requires
-    inclusion-root-requires
-    equals-requires
-    returns-7
-    returns-8)
+    (λ c. one-5 _ _ _ _ _ _ (omega arith))
+    (λ c. two-5 _ _ _ _ _ _ (omega arith) (omega arith))
+    (λ c. path-10 _ _ _ _ _ _ (omega arith) (omega arith) (omega arith))
+    (λ c. outside-6 _ _ _ _ _ _ (omega arith) (omega arith) (omega arith) (place-none _ _ (omega arith)))
+    (λ c. outside-6 _ _ _ _ _ _ (omega arith) (omega arith) (omega arith) (place-past _ _ (omega arith)))
+    (λ c κs. omega arith)
+    (λ c. count-7 _ _ _ _ _ _ (omega arith) (omega arith) (omega arith) (place-in _ _ (omega arith) (omega arith) (omega arith)) (omega arith))
+    (λ c κs. omega arith)
+    (λ c κs. omega arith)
+    (λ c κs. omega arith)
+    (λ c.
+    let y = yielded _ _ _ _ _ (c .before .before .inclusion-root .ensures) (c .before .before .before .node-at .ensures) (omega arith) in
+    other-8 _ _ _ _ _ _ (omega arith) (omega arith) (omega arith) (place-in _ _ (omega arith) (omega arith) (omega arith)) (omega arith) (y ∙ sym (c .before .equals .ensures) ∙ not-true (c .before .equals .result) (c .if7 .taken)))
+    (λ c.
+    let y = yielded _ _ _ _ _ (c .before .before .inclusion-root .ensures) (c .before .before .before .node-at .ensures) (omega arith) in
+    right-0 _ _ _ _ _ _ (omega arith) (omega arith) (omega arith) (place-in _ _ (omega arith) (omega arith) (omega arith)) (omega arith) (y ∙ sym (c .before .equals .ensures) ∙ not-false (c .before .equals .result) (c .if7 .left))))
