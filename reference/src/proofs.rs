@@ -3,7 +3,7 @@
 use crate::random::Random;
 use crate::requests::Requests;
 use crate::sha256::digest;
-use crate::tree::{self, Hash, MOST_LEAVES};
+use crate::tree::{self, Hash, LARGEST_SIZE};
 use crate::words::{bytes, number, Word};
 use crate::{verdict, yields};
 
@@ -155,23 +155,25 @@ pub fn made_consistency(first: u64, second: u64, random: &mut Random) -> Proof {
     Proof::consistency(first, second, &first_root, &second_root, &nodes)
 }
 
-/// Sizes next to the limit, to the middle and to the end of the numbers.
-pub const LARGE: [u64; 15] = [
+/// Sizes next to 2^32, which a word of 32 bits does not hold, to the middle and to the end of the numbers.
+pub const LARGE: [u64; 17] = [
     (1 << 31) - 1,
     1 << 31,
     (1 << 31) + 1,
     3 << 30,
-    MOST_LEAVES - 2,
-    MOST_LEAVES - 1,
-    MOST_LEAVES,
-    MOST_LEAVES + 1,
-    MOST_LEAVES + 2,
-    2 * MOST_LEAVES,
+    (1 << 32) - 2,
+    (1 << 32) - 1,
+    1 << 32,
+    (1 << 32) + 1,
+    (1 << 32) + 2,
+    1 << 33,
     (1 << 63) - 1,
     1 << 63,
     (1 << 63) + 1,
-    u64::MAX - 1,
-    u64::MAX,
+    3 << 62,
+    LARGEST_SIZE - 2,
+    LARGEST_SIZE - 1,
+    LARGEST_SIZE,
 ];
 
 /// Leaves, the root and all proofs of a list.
@@ -209,17 +211,22 @@ impl List {
 
 // Random proofs.
 
-/// A size above 0, of any count of bits, mostly within the limit.
+/// A size above 0, of any count of bits.
 fn random_size(random: &mut Random) -> u64 {
     match random.below(10) {
         0..=3 => random.between(1, 70),
         4..=7 => {
-            let bits = random.between(1, 32);
-            random.between(1, 1 << bits)
+            let largest = LARGEST_SIZE >> random.below(64);
+            random.between(1, largest)
         }
         8 => *random.pick(&LARGE),
-        _ => (random.draw() >> random.below(64)).max(1),
+        _ => near_power(random).max(1),
     }
+}
+
+/// Next to a power of two, 2^64 included; it may be 0.
+pub fn near_power(random: &mut Random) -> u64 {
+    ((1u128 << random.below(65)) as u64).wrapping_add(random.below(5)).wrapping_sub(2)
 }
 
 /// None, one or two faults.

@@ -7,7 +7,7 @@ use crate::proofs::{List, Proof};
 use crate::random::Random;
 use crate::requests::{lines_that_are_no_request, Entry, Layer, Requests};
 use crate::sha256::{digest, node};
-use crate::tree::{Hash, MOST_LEAVES};
+use crate::tree::{Hash, LARGEST_SIZE};
 use crate::verdict::Inclusion;
 use crate::words::{bytes, number, repeated, Word};
 use crate::yields;
@@ -161,9 +161,9 @@ impl Carry {
             self.with(|c| c.old.hashes[0].truncate(31)),
             self.with(|c| c.old.hashes[1].push(1)),
             self.with(|c| c.step.hashes[1].clear()),
-            self.with(|c| c.old.numbers[0] += 1),
-            self.with(|c| c.old.numbers[1] += 1),
-            self.with(|c| c.step.numbers[1] += 1),
+            self.with(|c| c.old.numbers[0] = c.old.numbers[0].wrapping_add(1)),
+            self.with(|c| c.old.numbers[1] = c.old.numbers[1].wrapping_add(1)),
+            self.with(|c| c.step.numbers[1] = c.step.numbers[1].wrapping_add(1)),
             self.with(|c| c.step.numbers[1] = c.step.numbers[1].wrapping_sub(1)),
             // The inclusion's number first, 9 last.
             self.with(|c| {
@@ -239,14 +239,14 @@ fn cases(requests: &mut Requests) {
         }
     }
     for (place, first, second) in [
-        (0, MOST_LEAVES - 1, MOST_LEAVES),
-        (MOST_LEAVES - 2, MOST_LEAVES - 1, MOST_LEAVES),
-        (5, MOST_LEAVES / 2, MOST_LEAVES),
-        (MOST_LEAVES / 2, MOST_LEAVES / 2 + 1, MOST_LEAVES),
-        (7, MOST_LEAVES, MOST_LEAVES),
-        (7, MOST_LEAVES, MOST_LEAVES + 1),
-        (0, 1, MOST_LEAVES),
-        (2, 3, MOST_LEAVES - 1),
+        (7, 1 << 32, (1 << 32) + 1),
+        (0, LARGEST_SIZE - 1, LARGEST_SIZE),
+        (LARGEST_SIZE - 2, LARGEST_SIZE - 1, LARGEST_SIZE),
+        (5, 1 << 63, LARGEST_SIZE),
+        (1 << 63, (1 << 63) + 1, LARGEST_SIZE),
+        (7, LARGEST_SIZE, LARGEST_SIZE),
+        (0, 1, LARGEST_SIZE),
+        (2, 3, LARGEST_SIZE),
     ] {
         Carry::made(place, first, second, random).ask(requests);
     }

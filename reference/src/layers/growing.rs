@@ -2,10 +2,11 @@
 //! of calls from a new tree.
 
 use crate::growing::{grow, of_list, Call, Growing, LEVELS};
+use crate::proofs::near_power;
 use crate::random::Random;
 use crate::requests::{lines_that_are_no_request, Asked, Entry, Layer, Requests};
 use crate::sha256::{digest, leaf};
-use crate::tree::{self, Hash, MOST_LEAVES};
+use crate::tree::{self, Hash, LARGEST_SIZE};
 use crate::words::{bytes, number, repeated, short, Word, MOST_BYTES};
 
 pub const LAYER: Layer = Layer {
@@ -236,7 +237,7 @@ fn ask_cuts(requests: &mut Requests, count: usize, both: bool, random: &mut Rand
 fn leaves_number(length: usize, count: u64) -> u64 {
     let sum = count as u128 + length as u128 / 32;
     match length % 32 {
-        0 => 6 * (sum > MOST_LEAVES as u128) as u64,
+        0 => 6 * (sum > LARGEST_SIZE as u128) as u64,
         _ => 10,
     }
 }
@@ -245,7 +246,7 @@ fn leaves_number(length: usize, count: u64) -> u64 {
 /// more counts and lengths where all are wanted.
 fn rules(all_wanted: bool) -> Vec<(u64, Asked)> {
     let random = &mut Random::new(32);
-    let (new, top, full) = (Growing::NEW, made_up(MOST_LEAVES - 1, random), made_up(MOST_LEAVES, random));
+    let (new, top, full) = (Growing::NEW, made_up(LARGEST_SIZE - 1, random), made_up(LARGEST_SIZE, random));
     let mut all = vec![
         (0, ask_leaves(&new, &[])),
         (0, ask_page(&new, &[])),
@@ -259,18 +260,18 @@ fn rules(all_wanted: bool) -> Vec<(u64, Asked)> {
         (6, ask_page(&full, &[7])),
         (0, ask_leaves(&full, &[])),
     ];
-    let (mut counts, mut lengths) = (vec![MOST_LEAVES, MOST_LEAVES + 1, u64::MAX], vec![0, 32, 33]);
+    let (mut counts, mut lengths) = (vec![LARGEST_SIZE, LARGEST_SIZE - 1, 1 << 32], vec![0, 32, 33]);
     if all_wanted {
-        counts.extend([0, 1, (1 << 33) - 1, 1 << 33, 1 << 63, u64::MAX - 1]);
-        counts.extend([3, 2, 1].map(|less| MOST_LEAVES - less));
+        counts.extend([0, 1, (1 << 32) - 1, (1 << 32) + 1, (1 << 33) - 1, 1 << 33, (1 << 63) - 1, 1 << 63]);
+        counts.extend([32, 31, 4, 3, 2].map(|less| LARGEST_SIZE - less));
         lengths.extend([1, 31, 63, 64, 65, 95, 96, 97, 128, 1_000, 1_024]);
     }
     for (at, count) in counts.iter().enumerate() {
         let tree = plain(*count, at as u8);
-        all.push((6 * (*count >= MOST_LEAVES) as u64, ask_page(&tree, b"a page")));
+        all.push((6 * (*count == LARGEST_SIZE) as u64, ask_page(&tree, b"a page")));
         all.extend(lengths.iter().map(|length| (leaves_number(*length, *count), ask_leaves(&tree, &vec![7; *length]))));
     }
-    for tree in [new, of_list(digest, &[[1; 32], [2; 32], [3; 32]]), top, plain(1 << 33, 6)] {
+    for tree in [new, of_list(digest, &[[1; 32], [2; 32], [3; 32]]), plain(LARGEST_SIZE, 6)] {
         for room in [0, 1, 31, 32, 33, 64] {
             all.push((if room < 32 { 9 } else { 0 }, ask_root_into(&tree, room, 0x5a)));
         }
@@ -303,11 +304,11 @@ fn cases(requests: &mut Requests) {
     for tree in [Growing::NEW, Growing::NEW.page(digest, b"").1, Growing::NEW.leaves(digest, &[0; 64]).1] {
         ask_all(requests, [ask_root(&tree)]);
     }
-    ask_all(requests, [ask_root(&made_up(MOST_LEAVES - 1, random).page(digest, b"page").1)]);
-    for count in [0, 2, 3, 0x5555_5555, 0xaaaa_aaaa, MOST_LEAVES - 1, MOST_LEAVES, 2 * MOST_LEAVES - 1, 2 * MOST_LEAVES, u64::MAX] {
+    ask_all(requests, [ask_root(&made_up((1 << 63) - 1, random).page(digest, b"page").1)]);
+    for count in [0, 2, 3, u64::MAX / 3, u64::MAX / 3 * 2, (1 << 32) - 1, 1 << 32, 1 << 63, LARGEST_SIZE - 1, LARGEST_SIZE] {
         ask_all(requests, [ask_root(&made_up(count, random))]);
     }
-    for bit in 0..36 {
+    for bit in (0..64).step_by(7) {
         let count = (1 << bit) + random.below(1 << bit);
         ask_all(requests, [ask_root(&made_up(count, random))]);
     }
@@ -343,25 +344,25 @@ fn no_requests(requests: &mut Requests) {
         "grow x x",
         "grow 0",
         "grow_page",
-        "grow_page 1056*00 0",
-        "grow_page 1056*00 0 x x",
-        "grow_page 1056*00 0 0",
-        "grow_page 1056*00 x x",
-        "grow_page 0 1056*00 x",
-        "grow_page 1056*00 18446744073709551616 x",
-        "grow_leaves 1056*00 0",
-        "grow_leaves 1056*00 0 x 0",
-        "grow_leaves 1056*00 0 0",
-        "grow_leaves 1056*00 1*00 x",
-        "grow_root 1056*00",
-        "grow_root 1056*00 0 x",
-        "grow_root 1056*00 x00",
-        "grow_root 1056 0",
-        "grow_root_into 1056*00 0",
-        "grow_root_into 1056*00 0 32",
-        "grow_root_into 1056*00 0 32*00 32",
-        "grow_leaves 1056*00 0 1047521*00",
-        "grow_tree 1056*00 0 x",
+        "grow_page 2048*00 0",
+        "grow_page 2048*00 0 x x",
+        "grow_page 2048*00 0 0",
+        "grow_page 2048*00 x x",
+        "grow_page 0 2048*00 x",
+        "grow_page 2048*00 18446744073709551616 x",
+        "grow_leaves 2048*00 0",
+        "grow_leaves 2048*00 0 x 0",
+        "grow_leaves 2048*00 0 0",
+        "grow_leaves 2048*00 1*00 x",
+        "grow_root 2048*00",
+        "grow_root 2048*00 0 x",
+        "grow_root 2048*00 x00",
+        "grow_root 2048 0",
+        "grow_root_into 2048*00 0",
+        "grow_root_into 2048*00 0 32",
+        "grow_root_into 2048*00 0 32*00 32",
+        "grow_leaves 2048*00 0 1046529*00",
+        "grow_tree 2048*00 0 x",
     ] {
         requests.line(line.as_bytes());
     }
@@ -380,11 +381,11 @@ fn counts() -> Vec<u64> {
 
 /// Trees that no list returns, with these counts and those about the limit.
 fn any_trees(requests: &mut Requests, random: &mut Random) {
-    for count in counts().into_iter().chain(MOST_LEAVES - 12..MOST_LEAVES + 4) {
+    for count in counts().into_iter().chain(LARGEST_SIZE - 12..=LARGEST_SIZE) {
         let tree = made_up(count, random);
         ask_all(requests, [ask_page(&tree, &random.bytes(9)), ask_root(&tree), ask_root_into(&tree, 32, 0)]);
         let mut more = vec![0, 1, random.between(2, 9)];
-        if let Some(room) = MOST_LEAVES.checked_sub(count).filter(|room| *room <= 12) {
+        if let Some(room) = Some(LARGEST_SIZE - count).filter(|room| *room <= 12) {
             more.extend([room.saturating_sub(1), room, room + 1]);
         }
         for more in more {
@@ -417,17 +418,18 @@ fn boundary(requests: &mut Requests, random: &mut Random) {
     for more in [1, 2, 31, 32, 33, 255, 256, 257, 1_000, 2_047, 2_048, 4_000] {
         let joined = random.bytes(32 * more);
         ask_all(requests, [ask_leaves(&Growing::NEW, &joined), ask_grow(&[Call::Leaves(joined.clone())])]);
-        let most = MOST_LEAVES - more as u64;
+        let most = LARGEST_SIZE - more as u64;
         for count in [most - 1, most, most + 1] {
             ask_all(requests, [ask_leaves(&made_up(count, random), &joined)]);
         }
     }
     let most = MOST_BYTES - HASHES;
-    for count in [0, MOST_LEAVES - 32_735, MOST_LEAVES - 32_734] {
+    let leaves = most as u64 / 32;
+    for count in [0, LARGEST_SIZE - leaves, LARGEST_SIZE - leaves + 1] {
         ask_all(requests, [ask_leaves(&plain(count, 5), &vec![6; most])]);
     }
     for length in [0, 1, 54, 55, 56, 62, 63, 64, 65, 118, 119, 120, 1_000, 65_536, most] {
-        for count in [0, MOST_LEAVES - 1, MOST_LEAVES] {
+        for count in [0, LARGEST_SIZE - 1, LARGEST_SIZE] {
             ask_all(requests, [ask_page(&plain(count, 8), &vec![0x61; length])]);
         }
     }
@@ -478,10 +480,11 @@ fn full(requests: &mut Requests) {
 fn random_count(random: &mut Random) -> u64 {
     match random.below(12) {
         0 | 1 => random.below(70),
-        2..=4 => random.draw() >> random.between(32, 63),
-        5 | 6 => (1 << random.between(1, 32)) - random.between(1, 2),
-        7..=9 => MOST_LEAVES + 2 - random.below(12),
-        _ => (1u64 << random.below(64)).wrapping_add(random.below(5)).wrapping_sub(2),
+        2..=4 => random.draw() >> random.below(64),
+        5 | 6 => near_power(random),
+        7 => (1 << 32) - 5 + random.below(10),
+        8 | 9 => LARGEST_SIZE,
+        _ => LARGEST_SIZE - random.below(10),
     }
 }
 
@@ -507,7 +510,7 @@ fn damaged(mut tree: Growing, random: &mut Random) -> Growing {
         1 => tree.hashes[level % 6][random.below(32) as usize] ^= 1 << random.below(8),
         2 => tree.hashes.swap(level, level / 2),
         3 => tree.count = tree.count.wrapping_add(random.below(3)).wrapping_sub(1),
-        4 => tree.count ^= 1 << random.below(34),
+        4 => tree.count ^= 1 << random.below(64),
         _ => tree.count = random_count(random),
     }
     tree
@@ -532,7 +535,7 @@ fn random_page(random: &mut Random) -> Vec<Word> {
 /// Some leaf hashes, as many as there is room for, or a few more; some of a bad length.
 fn random_leaves(random: &mut Random) -> Vec<Word> {
     let tree = random_tree(random);
-    let room = MOST_LEAVES.saturating_sub(tree.count);
+    let room = LARGEST_SIZE - tree.count;
     let count = match random.below(6) {
         0 if room < 50 => room,
         1 if room < 50 => room + random.between(1, 3),
@@ -634,15 +637,15 @@ mod tests {
         let empty_page = "6e340b9cffb37a989ca544e6bb780a2c78901d3fb33738768511a30617afa01d";
         let two_zeros = "ae0798d0ecaed2b778eddebf18f071a561c53658c05e76cedecc27cafbdbc577";
         let rest = &zeros[64..];
-        assert_eq!(ask("grow_root 1056*00 0"), format!("x{empty}\n"));
-        assert_eq!(ask("grow_root_into 1056*00 0 33*07"), format!("0 32 x{empty}07\n"));
-        assert_eq!(ask("grow_root_into 1056*00 0 2*07"), "9 0 x0707\n");
-        assert_eq!(ask("grow_page 1056*00 0 x"), format!("0 x{empty_page}{rest} 1\n"));
-        assert_eq!(ask("grow_leaves 1056*00 0 x"), format!("0 x{zeros} 0\n"));
-        assert_eq!(ask("grow_leaves 1056*00 0 32*05"), format!("0 x{five}{rest} 1\n"));
-        assert_eq!(ask("grow_leaves 1056*00 0 33*05"), format!("10 x{zeros} 0\n"));
-        assert_eq!(ask("grow_leaves 1056*00 4294967296 32*05"), format!("6 x{zeros} 4294967296\n"));
-        assert_eq!(ask("grow_page 1056*00 4294967296 x"), format!("6 x{zeros} 4294967296\n"));
+        assert_eq!(ask("grow_root 2048*00 0"), format!("x{empty}\n"));
+        assert_eq!(ask("grow_root_into 2048*00 0 33*07"), format!("0 32 x{empty}07\n"));
+        assert_eq!(ask("grow_root_into 2048*00 0 2*07"), "9 0 x0707\n");
+        assert_eq!(ask("grow_page 2048*00 0 x"), format!("0 x{empty_page}{rest} 1\n"));
+        assert_eq!(ask("grow_leaves 2048*00 0 x"), format!("0 x{zeros} 0\n"));
+        assert_eq!(ask("grow_leaves 2048*00 0 32*05"), format!("0 x{five}{rest} 1\n"));
+        assert_eq!(ask("grow_leaves 2048*00 0 33*05"), format!("10 x{zeros} 0\n"));
+        assert_eq!(ask("grow_leaves 2048*00 18446744073709551615 32*05"), format!("6 x{zeros} 18446744073709551615\n"));
+        assert_eq!(ask("grow_page 2048*00 18446744073709551615 x"), format!("6 x{zeros} 18446744073709551615\n"));
         assert_eq!(ask("grow x"), format!("x x{zeros} 0\n"));
         // An empty page, a refused call, and half a call.
         let told = format!("00{empty_page}0a{empty_page}");
@@ -651,7 +654,7 @@ mod tests {
             ask(&format!("grow x0100000040{}", "00".repeat(64))),
             format!("x00{two_zeros} x{}{two_zeros}{} 2\n", &zeros[..64], &zeros[128..])
         );
-        for line in ["grow_root 1055*00 0", "grow_root 1057*00 0", "grow_root 1088*00 0", "grow_page x 0 x", "grow 1"] {
+        for line in ["grow_root 2047*00 0", "grow_root 2049*00 0", "grow_root 2080*00 0", "grow_page x 0 x", "grow 1"] {
             assert_eq!(ask(line), "?\n", "{line}");
         }
     }

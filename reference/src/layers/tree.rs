@@ -5,7 +5,7 @@ use crate::proofs::{self, damaged, damaged_lengths, damaged_nodes, made_consiste
 use crate::random::Random;
 use crate::requests::{lines_that_are_no_request, Entry, Layer, Requests};
 use crate::sha256::{digest, node};
-use crate::tree::{self, Hash, MOST_LEAVES};
+use crate::tree::{self, Hash, LARGEST_SIZE};
 use crate::words::{bytes, number, repeated, Word};
 use crate::yields::{CONSISTENCY_COUNTS, INCLUSION_COUNTS};
 use crate::{verdict, yields};
@@ -167,10 +167,10 @@ fn cases(requests: &mut Requests) {
     for (at, size) in [
         (1 << 30, 1 << 31),
         (1 << 31, (1 << 31) + 1),
-        (0, MOST_LEAVES - 1),
-        (MOST_LEAVES - 2, MOST_LEAVES),
-        (MOST_LEAVES - 1, MOST_LEAVES),
-        (MOST_LEAVES / 2, MOST_LEAVES + 1),
+        (0, (1 << 32) - 1),
+        ((1 << 32) - 2, 1 << 32),
+        ((1 << 32) - 1, 1 << 32),
+        (1 << 31, (1 << 32) + 1),
         (5, 1 << 63),
         (u64::MAX - 1, u64::MAX),
     ] {
@@ -178,7 +178,7 @@ fn cases(requests: &mut Requests) {
         made_consistency(at + 1, size, random).ask(requests);
     }
     // No place and no first size of these.
-    for numbers in [[0, 0], [1, 0], [u64::MAX, 0], [u64::MAX, 1], [u64::MAX, u64::MAX], [0, u64::MAX], [MOST_LEAVES, MOST_LEAVES]] {
+    for numbers in [[0, 0], [1, 0], [u64::MAX, 0], [u64::MAX, 1], [u64::MAX, u64::MAX], [0, u64::MAX], [1 << 32, 1 << 32]] {
         for is_inclusion in [true, false] {
             let hash = random.hash().to_vec();
             Proof { is_inclusion, numbers, hashes: [hash.clone(), hash], path: vec![] }.ask(requests);
@@ -268,8 +268,9 @@ fn papers_cases(requests: &mut Requests, random: &mut Random) {
     Proof::consistency(4, 4, &k, &k, &[l]).ask(requests);
     Proof::consistency(0, 7, &k, &root, &[l]).ask(requests);
     Proof::consistency(7, 3, &root, &k, &[l]).ask(requests);
-    made_inclusion(5, MOST_LEAVES, random).ask(requests);
-    made_inclusion(5, MOST_LEAVES + 1, random).ask(requests);
+    for size in [1 << 32, (1 << 32) + 1, 1 << 63, LARGEST_SIZE - 1, LARGEST_SIZE] {
+        made_inclusion(5, size, random).ask(requests);
+    }
 }
 
 /// 10, then 6, then 9, each alone and before the others.
@@ -339,11 +340,9 @@ fn full(requests: &mut Requests) {
         for at in [0, 1, size / 2 - 1, size / 2, size - 2, size - 1, random.below(size), random.below(size)] {
             for proof in [made_inclusion(at, size, random), made_consistency(at + 1, size, random)] {
                 proof.ask(requests);
-                if size <= MOST_LEAVES {
-                    damaged(&proof, random).iter().for_each(|proof| proof.ask(requests));
-                    let nodes = damaged_nodes(&proof, random);
-                    nodes.iter().step_by(13).for_each(|proof| proof.ask(requests));
-                }
+                damaged(&proof, random).iter().for_each(|proof| proof.ask(requests));
+                let nodes = damaged_nodes(&proof, random);
+                nodes.iter().step_by(13).for_each(|proof| proof.ask(requests));
             }
         }
     }
@@ -471,13 +470,12 @@ mod tests {
     fn made_proofs_are_accepted() {
         let random = &mut Random::new(1);
         for size in LARGE {
-            let expected = if size <= MOST_LEAVES { "0\n" } else { "6\n" };
             for at in [0, size / 2, size - 1] {
                 for proof in [made_inclusion(at, size, random), made_consistency(at + 1, size, random)] {
                     let mut requests = Vec::new();
                     proof.ask(&mut Requests::new(&mut requests));
                     let line = String::from_utf8(requests).unwrap();
-                    assert_eq!(ask(line.trim_end()), expected);
+                    assert_eq!(ask(line.trim_end()), "0\n");
                 }
             }
         }
