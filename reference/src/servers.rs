@@ -3,6 +3,7 @@
 
 use crate::auditor::{self, Call, Offer, PageCall, Record};
 use crate::carry::{consistency_places, inclusion_places, parts, Leaves};
+use crate::proofs::near_power;
 use crate::random::Random;
 use crate::tree::{leaf_hash, node_hash, Hash, HashFunction, LARGEST_SIZE};
 use crate::yields;
@@ -22,13 +23,14 @@ pub struct Log {
 impl Log {
     /// Up to `most` leaves; up to six sizes and four pages matter.
     pub fn random(h: HashFunction, most: u64, random: &mut Random) -> Log {
-        let mut sizes: Vec<u64> = (0..random.between(1, 6)).map(|_| random.between(1, most)).collect();
+        let mut sizes: Vec<u64> = (0..random.between(1, 6)).map(|_| some_size(most, random)).collect();
         sizes.sort();
         sizes.dedup();
         let mut pages = BTreeMap::new();
         for _ in 0..random.between(1, 4) {
             let size = *random.pick(&sizes);
-            pages.insert(random.below(size), some_page(random));
+            let place = if random.one_in(4) { size - 1 } else { random.below(size) };
+            pages.insert(place, some_page(random));
         }
         // Places at the ends.
         pages.insert(*random.pick(&[0, sizes[0] - 1]), some_page(random));
@@ -63,6 +65,15 @@ impl Log {
 
     pub fn consistency_path(&self, first: u64, second: u64) -> Vec<u8> {
         self.nodes(consistency_places(first, 0..second, true))
+    }
+}
+
+/// Up to `most`: any, one next to a power of two, or the last.
+fn some_size(most: u64, random: &mut Random) -> u64 {
+    match random.below(8) {
+        0 | 1 => near_power(random).clamp(1, most),
+        2 => most,
+        _ => random.between(1, most),
     }
 }
 

@@ -83,7 +83,7 @@ fn fits(letter: u8, n: usize) -> bool {
     match letter {
         b'h' => n == 32,
         b'i' => n == 127,
-        b'g' => n == 1056,
+        b'g' => n == 2048,
         b'w' => n <= 1024 && n % 4 == 0,
         _ => true,
     }

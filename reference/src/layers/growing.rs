@@ -2,7 +2,7 @@
 //! of calls from a new tree.
 
 use crate::growing::{grow, of_list, Call, Growing, LEVELS};
-use crate::proofs::near_power;
+use crate::proofs::{near_power, next_to_powers};
 use crate::random::Random;
 use crate::requests::{lines_that_are_no_request, Asked, Entry, Layer, Requests};
 use crate::sha256::{digest, leaf};
@@ -242,11 +242,25 @@ fn leaves_number(length: usize, count: u64) -> u64 {
     }
 }
 
+/// The cases by hand of request 3, full-size logs, as its readings list them.
+fn full_size_cases() -> Vec<(u64, Asked)> {
+    let (top, full) = (plain(LARGEST_SIZE - 1, 0xa1), plain(LARGEST_SIZE, 0xb2));
+    vec![
+        (0, ask_leaves(&top, &[3; 32])),
+        (6, ask_leaves(&top, &[3; 64])),
+        (10, ask_leaves(&top, &[3; 33])),
+        (6, ask_page(&full, b"page")),
+        (0, ask_leaves(&full, &[])),
+    ]
+}
+
 /// Single calls of the papers' rules, with the number that must be given; of
 /// more counts and lengths where all are wanted.
 fn rules(all_wanted: bool) -> Vec<(u64, Asked)> {
     let random = &mut Random::new(32);
     let (new, top, full) = (Growing::NEW, made_up(LARGEST_SIZE - 1, random), made_up(LARGEST_SIZE, random));
+    // A leaf that merges 32, 33 and 63 levels, and one behind it.
+    let before = [(1 << 32) - 1, (1 << 33) - 1, (1 << 63) - 1].map(|count| made_up(count, random));
     let mut all = vec![
         (0, ask_leaves(&new, &[])),
         (0, ask_page(&new, &[])),
@@ -254,17 +268,18 @@ fn rules(all_wanted: bool) -> Vec<(u64, Asked)> {
         (0, ask_leaves(&new, &[0; 64])),
         (0, ask_page(&top, b"page")),
         (0, ask_leaves(&top, &leaf(b"page"))),
-        (6, ask_leaves(&top, &[0; 64])),
-        (10, ask_leaves(&top, &[0; 65])),
         (10, ask_leaves(&full, &[0; 31])),
+        (6, ask_leaves(&full, &[0; 32])),
         (6, ask_page(&full, &[7])),
-        (0, ask_leaves(&full, &[])),
     ];
-    let (mut counts, mut lengths) = (vec![LARGEST_SIZE, LARGEST_SIZE - 1, 1 << 32], vec![0, 32, 33]);
+    all.extend(before.iter().map(|tree| (0, ask_page(tree, b"page"))));
+    all.extend(before.iter().map(|tree| (0, ask_leaves(tree, &[4; 64]))));
+    all.extend(full_size_cases());
+    let (mut counts, mut lengths) = (vec![LARGEST_SIZE - 2, 1 << 32, (1 << 32) + 1], vec![31, 32, 64, 96]);
     if all_wanted {
-        counts.extend([0, 1, (1 << 32) - 1, (1 << 32) + 1, (1 << 33) - 1, 1 << 33, (1 << 63) - 1, 1 << 63]);
-        counts.extend([32, 31, 4, 3, 2].map(|less| LARGEST_SIZE - less));
-        lengths.extend([1, 31, 63, 64, 65, 95, 96, 97, 128, 1_000, 1_024]);
+        counts.extend([0, 1, (1 << 32) - 1, (1 << 33) - 1, 1 << 33, (1 << 63) - 1, 1 << 63]);
+        counts.extend([32, 31, 4, 3, 1, 0].map(|less| LARGEST_SIZE - less));
+        lengths.extend([0, 1, 33, 63, 65, 95, 97, 128, 1_000, 1_024]);
     }
     for (at, count) in counts.iter().enumerate() {
         let tree = plain(*count, at as u8);
@@ -304,16 +319,15 @@ fn cases(requests: &mut Requests) {
     for tree in [Growing::NEW, Growing::NEW.page(digest, b"").1, Growing::NEW.leaves(digest, &[0; 64]).1] {
         ask_all(requests, [ask_root(&tree)]);
     }
-    ask_all(requests, [ask_root(&made_up((1 << 63) - 1, random).page(digest, b"page").1)]);
     for count in [0, 2, 3, u64::MAX / 3, u64::MAX / 3 * 2, (1 << 32) - 1, 1 << 32, 1 << 63, LARGEST_SIZE - 1, LARGEST_SIZE] {
         ask_all(requests, [ask_root(&made_up(count, random))]);
     }
-    for bit in (0..64).step_by(7) {
+    for bit in (10..64).step_by(17) {
         let count = (1 << bit) + random.below(1 << bit);
         ask_all(requests, [ask_root(&made_up(count, random))]);
     }
     // Trees that no list returns: what stands at the level of the new hash is written over, and the levels above stay.
-    for count in [1, 3, 11, 0x5555_5555] {
+    for count in [1, 3, 11, u64::MAX / 3, LARGEST_SIZE - 8] {
         let tree = made_up(count, random);
         ask_all(requests, [ask_page(&tree, b"next page"), ask_leaves(&tree, &some_hashes(3, random).concat())]);
     }
@@ -370,22 +384,14 @@ fn no_requests(requests: &mut Requests) {
 
 // The large run.
 
-/// Next to every power of two, to the limit and to the end of the numbers.
-fn counts() -> Vec<u64> {
-    let near = |bit: u32| (0..5).map(move |add| (1u64 << bit).wrapping_add(add).wrapping_sub(2));
-    let mut all: Vec<u64> = (0..64).flat_map(near).chain(u64::MAX - 3..=u64::MAX).collect();
-    all.sort();
-    all.dedup();
-    all
-}
-
-/// Trees that no list returns, with these counts and those about the limit.
+/// Trees that no list returns, with counts next to every power of two and those up to the largest.
 fn any_trees(requests: &mut Requests, random: &mut Random) {
-    for count in counts().into_iter().chain(LARGEST_SIZE - 12..=LARGEST_SIZE) {
+    for count in next_to_powers(2).into_iter().chain(LARGEST_SIZE - 12..=LARGEST_SIZE) {
         let tree = made_up(count, random);
         ask_all(requests, [ask_page(&tree, &random.bytes(9)), ask_root(&tree), ask_root_into(&tree, 32, 0)]);
-        let mut more = vec![0, 1, random.between(2, 9)];
-        if let Some(room) = Some(LARGEST_SIZE - count).filter(|room| *room <= 12) {
+        let mut more = vec![0, 1, 2, random.between(3, 9)];
+        let room = LARGEST_SIZE - count;
+        if room <= 12 {
             more.extend([room.saturating_sub(1), room, room + 1]);
         }
         for more in more {
@@ -476,7 +482,7 @@ fn full(requests: &mut Requests) {
 
 // Random requests.
 
-/// Three in four with room for more, some of these for few.
+/// Five in six with room for more, some of these for few.
 fn random_count(random: &mut Random) -> u64 {
     match random.below(12) {
         0 | 1 => random.below(70),

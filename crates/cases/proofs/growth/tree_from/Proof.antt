@@ -7,10 +7,10 @@ use Rattle.cases.proofs.growth.tree_from.Statement.{statement}
 use Rattle.cases.proofs.growth.tree_from.Tie as tie
 
 abbrev Inv-loop : tie.InvT-loop
-Inv-loop s count hashes₀ i₀ hashes i = length hashes ≡ 33
+Inv-loop s count hashes₀ i₀ hashes i = length hashes ≡ 64
 
 abbrev μ-loop : tie.MeasureT-loop
-μ-loop s count hashes₀ i₀ hashes i = 33 - i
+μ-loop s count hashes₀ i₀ hashes i = 64 - i
 
 loop-again : tie.Need-loop-again Inv-loop μ-loop
 loop-again c = simp length-set (omega arith)
