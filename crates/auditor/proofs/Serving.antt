@@ -1,9 +1,8 @@
 -- An honest log: all that it serves is accepted, and a dispute about two of its pages says that they are the same. Assumes nothing.
 use mathlib.Core.Path.{_≡_, refl, sym, ap, ap₂, _∙_}
-use mathlib.Core.Logic.{⊎-elim}
-use mathlib.Core.Bool.{Bool, true, false, not, _&&_}
+use mathlib.Core.Bool.{Bool, true, false, not, _&&_, _||_}
 use mathlib.Core.List.{List, [], _∷_, _++_, map}
-use Prim.Native.Nat.{ℕ, zero, suc, _*_, _/_, _%_, _≤_, _<_}
+use Prim.Native.Nat.{ℕ, zero, suc, _*_, _%_, _≤_, _<_}
 use native.Mathlib.Omega.{arith}
 use lib.Dec.{eqb}
 use lib.ListN.{length, take, drop, getD, length-take, length-map, take-append-drop}
@@ -13,20 +12,17 @@ use Rattle.hash.specs.Digest.{sha256}
 use Rattle.hash.specs.Answers.{mostItem}
 use Rattle.hash.proofs.Promises.{sha256-length}
 use Rattle.tree.specs.Limits.{largestSize}
-use Rattle.tree.specs.Tree.{leaf, root, path}
-use Rattle.tree.specs.Joined.{nodes, nodeAt, joined, same}
-use Rattle.tree.specs.Build.{wrote, into, unfit, inclusionBuilt, consistencyBuilt}
+use Rattle.tree.specs.Tree.{leaf, root, path, consistency}
+use Rattle.tree.specs.Joined.{nodes, joined, same}
 use Rattle.tree.specs.Verdict.{inclusionVerdict, consistencyVerdict}
-use Rattle.tree.proofs.Splitting.{lt-or-ge}
-use Rattle.tree.proofs.Joining.{All32, all-take, all-nodes, at-first, nodes-first, nodes-joined, joined-append, joined-length, same-refl, same-of}
+use Rattle.tree.proofs.Joining.{All32, all-take, all-nodes, nodes-joined, joined-append, joined-length, same-refl, same-of}
 use Rattle.tree.proofs.Counting.{bounds}
 use Rattle.tree.proofs.Completing.{root-32}
 use Rattle.tree.proofs.Accepting.{inclusion-accepted, consistency-accepted}
-use Rattle.tree.proofs.Building.{unfit-rest, short, long, path-in, path-bytes, complete}
 use Rattle.carry.specs.Forward.{carried, carry}
 use Rattle.carry.specs.Compare.{compare}
 use Rattle.carry.proofs.Comparing.{comparing}
-use Rattle.carry.proofs.Honest.{honest}
+use Rattle.carry.proofs.Honest.{own-inclusion, own-consistency, own-carried}
 use Rattle.sha256.specs.Told.{Told}
 use Rattle.auditor.specs.Held.{Held, empty, head, none}
 use Rattle.auditor.specs.Offer.{outside, first, against, byRecord, offerNumber, kept}
@@ -41,6 +37,10 @@ use Rattle.auditor.proofs.Holding.{same-answers, heads-fit}
 
 -- ---- what is accepted
 
+inside : (n : ℕ) → 0 < n → n ≤ largestSize → outside n ≡ false
+unfolding outside
+inside n some most = ap₂ _||_ (ne-eqb n 0 (λ e. omega arith)) (le-ltb largestSize n most)
+
 same-size : (n m : ℕ) (s r : List ℕ) → (n ≡ m → s ≡ r) → (eqb n m && not (same s r)) ≡ false
 same-size n m s r h = go (eqb n m) refl
   where
@@ -50,14 +50,14 @@ same-size n m s r h = go (eqb n m) refl
 
 module _ (H : List ℕ → List ℕ) (id : List ℕ) (least : 2 ≤ length id) (most : length id ≤ 127) (time n : ℕ) (s : List ℕ) (s-32 : length s ≡ 32) (some : 0 < n) (in-range : n ≤ largestSize) where
   takes-first : offerNumber H empty id time n s [] ≡ 0
-  unfolding offerNumber byRecord first outside
+  unfolding offerNumber byRecord first
   takes-first =
-      rw (eq-eqb (length s) 32 s-32, le-ltb (length id) 2 least, le-ltb 127 (length id) most, ne-eqb n 0 (λ e. omega arith), le-ltb largestSize n in-range)
+      rw (eq-eqb (length s) 32 s-32, le-ltb (length id) 2 least, le-ltb 127 (length id) most, inside n some in-range)
 
   takes-later : (t m : ℕ) (r proof : List ℕ) → length proof % 32 ≡ 0 → m ≤ n → t ≤ time → (n ≡ m → s ≡ r) → consistencyVerdict H m n r s proof ≡ 0 → offerNumber H (head id t m r) id time n s proof ≡ 0
-  unfolding offerNumber byRecord against outside
+  unfolding offerNumber byRecord against
   takes-later t m r proof whole le since one v =
-      rw (eq-eqb (length s) 32 s-32, le-ltb (length id) 2 least, le-ltb 127 (length id) most, eq-eqb (length proof % 32) 0 whole, same-refl id, ne-eqb n 0 (λ e. omega arith), le-ltb largestSize n in-range, le-ltb n m le, le-ltb time t since, same-size n m s r one) v
+      rw (eq-eqb (length s) 32 s-32, le-ltb (length id) 2 least, le-ltb 127 (length id) most, eq-eqb (length proof % 32) 0 whole, same-refl id, inside n some in-range, le-ltb n m le, le-ltb time t since, same-size n m s r one) v
 
 takes-page : (H : List ℕ → List ℕ) (id : List ℕ) (t m : ℕ) (r : List ℕ) (place : ℕ) (item proof : List ℕ) → length item ≤ mostItem → inclusionVerdict H (H (0 ∷ item)) place m r proof ≡ 0 → pageNumber H (head id t m r) place item proof ≡ 0
 unfolding pageNumber
@@ -88,13 +88,8 @@ taken-joined n l a h =
     let i : length (take n l) ≡ n = simp length-take (omega arith) in
     ap (take (32 * n)) e ∙ take-at (joined (take n l)) (joined (drop n l)) (32 * n) (omega arith)
 
--- what a builder with room wrote
-written : (room : ℕ) (x w : List ℕ) → into room x ≡ wrote w → w ≡ x
-written room x w e =
-    ⊎-elim (λ l. let i = short room x l in let z : _≡_ {A = ℕ} 0 1 = cc in absurd (omega arith)) (λ l. let i = long room x l in cc) (lt-or-ge room (length x))
-
 module _ (id : List ℕ) (pages : List (List ℕ)) (all : length pages ≤ largestSize) where
-  hashes : List (List ℕ)
+  abbrev hashes : List (List ℕ)
   hashes = map (leaf sha256) pages
 
   -- the root of the first n, and the path of a place among them
@@ -104,98 +99,66 @@ module _ (id : List ℕ) (pages : List (List ℕ)) (all : length pages ≤ large
   own : ℕ → ℕ → List ℕ
   own n place = joined (path sha256 place (nodes (leaves id pages n)))
 
+  -- and from the first m to the first n
+  since : ℕ → ℕ → List ℕ
+  since m n = joined (consistency sha256 m (nodes (leaves id pages n)))
+
   root-at-32 : (n : ℕ) → length (rootAt n) ≡ 32
   unfolding rootAt
   root-at-32 n = root-32 sha256 sha256-length (nodes (leaves id pages n)) (all-nodes (leaves id pages n))
 
+  hashes-32 : All32 hashes
+  hashes-32 = all-leaves sha256 sha256-length pages
+
   module _ (n : ℕ) (le : n ≤ length pages) where
-    leaves-joined : leaves id pages n ≡ joined (take n hashes)
-    unfolding leaves hashes
-    leaves-joined =
-        let k = length-map pages (leaf sha256) in
-        taken-joined n (map (leaf sha256) pages) (all-leaves sha256 sha256-length pages) (omega arith)
-
     leaves-nodes : nodes (leaves id pages n) ≡ take n hashes
-    unfolding hashes
-    leaves-nodes = ap nodes leaves-joined ∙ nodes-joined (take n (map (leaf sha256) pages)) (all-take n (map (leaf sha256) pages) (all-leaves sha256 sha256-length pages))
-
-    leaves-bytes : length (leaves id pages n) ≡ 32 * n
-    unfolding hashes
-    leaves-bytes =
-        let k = length-map pages (leaf sha256) in
-        let i : length (take n (map (leaf sha256) pages)) ≡ n = simp length-take (omega arith) in
-        ap length leaves-joined ∙ joined-length (take n (map (leaf sha256) pages)) (all-take n (map (leaf sha256) pages) (all-leaves sha256 sha256-length pages)) ∙ omega arith
-
-    leaves-count : length (leaves id pages n) / 32 ≡ n
-    leaves-count = let e = leaves-bytes in omega arith
-
-    leaves-fit : unfit (leaves id pages n) ≡ false
-    leaves-fit =
-        let e = leaves-bytes in
-        unfit-rest (leaves id pages n) (omega arith) ∙ le-ltb largestSize (length (leaves id pages n) / 32) (omega arith)
-
-    leaves-first : (m : ℕ) → m ≤ n → take (32 * m) (leaves id pages n) ≡ leaves id pages m
     unfolding leaves
-    leaves-first m h = take-take (32 * m) (32 * n) (joined (map (leaf sha256) pages)) (omega arith)
+    leaves-nodes =
+        let k = length-map pages (leaf sha256) in
+        ap nodes (taken-joined n hashes hashes-32 (omega arith)) ∙ nodes-joined (take n hashes) (all-take n hashes hashes-32)
 
-    leaves-at : (place : ℕ) → place < n → nodeAt place (leaves id pages n) ≡ sha256 (0 ∷ getD pages place [])
-    unfolding hashes
-    leaves-at place h =
-        let c = leaves-count in
-        sym (ap (λ (l : List (List ℕ)). getD l place []) (nodes-first (leaves id pages n)) ∙ at-first (length (leaves id pages n) / 32) place (leaves id pages n) (omega arith))
-        ∙ ap (λ (l : List (List ℕ)). getD l place []) leaves-nodes ∙ getD-take n (map (leaf sha256) pages) place [] h ∙ leaf-at sha256 pages place (omega arith)
-
-    own-in : (place room : ℕ) → place < n → inclusionBuilt sha256 (leaves id pages n) place room ≡ into room (own n place)
-    unfolding own
-    own-in place room h = let c = leaves-count in path-in sha256 (leaves id pages n) place room leaves-fit (omega arith)
-
-    own-short : (place : ℕ) → place < n → length (own n place) ≤ longestPath
-    unfolding own
-    own-short place h =
-        let c = leaves-count in
-        let b = path-bytes sha256 sha256-length place (leaves id pages n) (omega arith) in
-        let k = bounds .inclusion-largest place (length (leaves id pages n) / 32) (omega arith) (omega arith) in
-        omega arith
-
-    own-built : (place : ℕ) → place < n → inclusionBuilt sha256 (leaves id pages n) place longestPath ≡ wrote (own n place)
-    own-built place h = own-in place longestPath h ∙ long longestPath (own n place) (own-short place h)
-
-    shows : (place room : ℕ) (w : List ℕ) → inclusionBuilt sha256 (leaves id pages n) place room ≡ wrote w → place < n
-    shows place room w e =
-        let c = leaves-count in
-        let v = inclusion-accepted sha256 (nodeAt place (leaves id pages n)) place (length (leaves id pages n) / 32) (root sha256 (nodes (leaves id pages n))) w (complete sha256 sha256-length .inclusion (leaves id pages n) w place room e) in
-        let b = v .below in
-        omega arith
+    leaves-count : length (take n hashes) ≡ n
+    leaves-count = let k = length-map pages (leaf sha256) in simp length-take (omega arith)
 
     own-accepted : (place : ℕ) → place < n → inclusionVerdict sha256 (sha256 (0 ∷ getD pages place [])) place n (rootAt n) (own n place) ≡ 0
-    unfolding rootAt
+    unfolding rootAt own
     own-accepted place h =
-        ap₂ (λ (x : List ℕ) (i : ℕ). inclusionVerdict sha256 x place i (root sha256 (nodes (leaves id pages n))) (own n place)) (sym (leaves-at place h)) (sym leaves-count)
-        ∙ complete sha256 sha256-length .inclusion (leaves id pages n) (own n place) place longestPath (own-built place h)
+        let k = length-map pages (leaf sha256) in
+        ap₂ (λ (x : List ℕ) (l : List (List ℕ)). inclusionVerdict sha256 x place n (root sha256 l) (joined (path sha256 place l))) (sym (leaf-at sha256 pages place (omega arith))) leaves-nodes
+        ∙ own-inclusion sha256 sha256-length hashes hashes-32 n place h (omega arith) (omega arith)
+
+    own-short : (place : ℕ) → place < n → length (own n place) ≤ longestPath
+    own-short place h =
+        let c = inclusion-accepted sha256 (sha256 (0 ∷ getD pages place [])) place n (rootAt n) (own n place) (own-accepted place h) .counted in
+        let k = bounds .inclusion-largest place n h (omega arith) in
+        omega arith
 
   -- two sizes
-  module _ (m n : ℕ) (order : m ≤ n) (le : n ≤ length pages) where
-    root-first : root sha256 (take m (nodes (leaves id pages n))) ≡ rootAt m
-    unfolding rootAt
-    root-first = ap (root sha256) (ap (take m) (leaves-nodes n le) ∙ take-take m n hashes order ∙ sym (leaves-nodes m (omega arith)))
+  module _ (m n : ℕ) (some : 0 < m) (order : m ≤ n) (le : n ≤ length pages) where
+    first-nodes : nodes (leaves id pages m) ≡ take m (take n hashes)
+    first-nodes = leaves-nodes m (omega arith) ∙ sym (take-take m n hashes order)
 
-    consistent : (room : ℕ) (w : List ℕ) → consistencyBuilt sha256 (leaves id pages n) m room ≡ wrote w → consistencyVerdict sha256 m n (rootAt m) (rootAt n) w ≡ 0
-    unfolding rootAt
-    consistent room w e =
-        ap₂ (λ (i : ℕ) (r : List ℕ). consistencyVerdict sha256 m i r (root sha256 (nodes (leaves id pages n))) w) (sym (leaves-count n le)) (sym root-first)
-        ∙ complete sha256 sha256-length .consistency (leaves id pages n) w m room e
+    consistent : consistencyVerdict sha256 m n (rootAt m) (rootAt n) (since m n) ≡ 0
+    unfolding rootAt since
+    consistent =
+        let c = leaves-count n le in
+        let l = take n hashes in
+        ap₂ (λ (a b : List (List ℕ)). consistencyVerdict sha256 m n (root sha256 a) (root sha256 b) (joined (consistency sha256 m b))) first-nodes (leaves-nodes n le)
+        ∙ ap (λ (i : ℕ). consistencyVerdict sha256 m i (root sha256 (take m l)) (root sha256 l) (joined (consistency sha256 m l))) (sym c)
+        ∙ own-consistency sha256 sha256-length l (all-take n hashes hashes-32) m 0 some (omega arith) (omega arith)
 
     -- the path of a place is carried to its path in the longer list
-    own-carried : (place room pair : ℕ) (w : List ℕ) → place < m → consistencyBuilt sha256 (leaves id pages n) m room ≡ wrote w → 130 ≤ pair →
-        carry sha256 (sha256 (0 ∷ getD pages place [])) place m n (rootAt m) (rootAt n) (own m place) w longestPath pair ≡ carried (own n place)
-    unfolding rootAt
-    own-carried place room pair w h e l =
-        let first = leaves-first n le m order in
-        let built : inclusionBuilt sha256 (take (32 * m) (leaves id pages n)) place longestPath ≡ wrote (own m place) =
-        ap (λ (s : List ℕ). inclusionBuilt sha256 s place longestPath) first ∙ own-built m (omega arith) place h in
-        ap₂ (λ (x s : List ℕ). carry sha256 x place m n (root sha256 (nodes s)) (root sha256 (nodes (leaves id pages n))) (own m place) w longestPath pair) (sym (leaves-at n le place (omega arith))) (sym first)
-        ∙ ap (λ (i : ℕ). carry sha256 (nodeAt place (leaves id pages n)) place m i (root sha256 (nodes (take (32 * m) (leaves id pages n)))) (root sha256 (nodes (leaves id pages n))) (own m place) w longestPath pair) (sym (leaves-count n le))
-        ∙ honest sha256 sha256-length .carries (leaves id pages n) (own m place) w (own n place) place m longestPath room longestPath longestPath pair built e (own-built n le place (omega arith)) (own-short n le place (omega arith)) l
+    carried-on : (place pair : ℕ) → place < m → 130 ≤ pair →
+        carry sha256 (sha256 (0 ∷ getD pages place [])) place m n (rootAt m) (rootAt n) (own m place) (since m n) longestPath pair ≡ carried (own n place)
+    unfolding rootAt own since
+    carried-on place pair h long =
+        let c = leaves-count n le in
+        let l = take n hashes in
+        let leaf₀ : sha256 (0 ∷ getD pages place []) ≡ getD l place [] = sym (getD-take n hashes place [] (omega arith) ∙ leaf-at sha256 pages place (omega arith)) in
+        let short : length (joined (path sha256 place l)) ≤ longestPath = let s = own-short n le place (omega arith) in rw (leaves-nodes n le) at s in
+        rw (leaf₀, first-nodes, leaves-nodes n le)
+        (ap (λ (i : ℕ). carry sha256 (getD l place []) place m i (root sha256 (take m l)) (root sha256 l) (joined (path sha256 place (take m l))) (joined (consistency sha256 m l)) longestPath pair) (sym c)
+        ∙ own-carried sha256 sha256-length l (all-take n hashes hashes-32) m place h (omega arith) (omega arith) longestPath pair short long)
 
   -- the record of a size and a timestamp
   heldAt : ℕ → ℕ → Held
@@ -209,7 +172,7 @@ module _ (id : List ℕ) (pages : List (List ℕ)) (all : length pages ≤ large
 
   -- what is said of each entry, over a size: the log's own head and path, or its own page and path
   NewHead : ℕ → ℕ → List ℕ → List ℕ → Type 0
-  NewHead m n r w = (m ≤ n) × (0 < n) × (n ≤ length pages) × (r ≡ rootAt n) × (0 < m → (room : ℕ) × (consistencyBuilt sha256 (leaves id pages n) m room ≡ wrote w))
+  NewHead m n r w = (m ≤ n) × (0 < n) × (n ≤ length pages) × (r ≡ rootAt n) × (0 < m → w ≡ since m n)
 
   OwnPage : ℕ → ℕ → List ℕ → List ℕ → Type 0
   OwnPage m place item w = (item ≡ getD pages place []) × (place < m) × (w ≡ own m place)
@@ -222,16 +185,11 @@ module _ (id : List ℕ) (pages : List (List ℕ)) (all : length pages ≤ large
   Good m (answered (ask place item w) (suc k) ∷ es) = ⊥
 
   good : {m t : ℕ} {calls : List Call} → Served id pages m t calls → m ≤ length pages → Good m (map (λ (c : Call). answered c 0) calls)
-  unfolding Good NewHead OwnPage rootAt
+  unfolding Good NewHead OwnPage rootAt own since
   good Served.done h = tt
   good (Served.first some le s) h = ((omega arith, some, le, refl, λ z. absurd (omega arith)), good s le)
-  good (Served.later {m = m} {n = n} room {path = w} order le since e s) h =
-      let v = consistency-accepted sha256 m n (rootAt m) (rootAt n) w (consistent m n order le room w e) in
-      let z = v .some in
-      ((order, omega arith, le, refl, λ p. (room, e)), good s le)
-  good (Served.page {m = m} {place = place} room {path = w} e s) h =
-      let l = shows m h place room w e in
-      ((refl, l, written room (own m place) w (sym (own-in m h place room l) ∙ e)), good s h)
+  good (Served.later some order le since₀ s) h = ((order, omega arith, le, refl, λ p. refl), good s le)
+  good (Served.page l s) h = ((refl, l, refl), good s h)
 
   -- after some entries
   after-some : (es fs : List Entry) (m : ℕ) (r : List ℕ) → m ≤ length pages → (0 < m → r ≡ rootAt m) → Good m (es ++ fs) →
@@ -246,27 +204,21 @@ module _ (id : List ℕ) (pages : List (List ℕ)) (all : length pages ≤ large
 
   module _ (least : 2 ≤ length id) (most : length id ≤ 127) (items : (i : ℕ) → length (getD pages i []) ≤ mostItem) where
     accepts : {m t : ℕ} {calls : List Call} → Served id pages m t calls → m ≤ length pages → run sha256 (heldAt m t) calls ≡ map (λ (c : Call). answered c 0) calls
-    unfolding heldAt rootAt number after kept run
+    unfolding heldAt rootAt own since number after kept run
     accepts Served.done h = refl
     accepts (Served.first {n = n} {time = time} {calls = calls} some le s) h =
         goes-on sha256 (offer id time n (rootAt n) []) empty (heldAt n time) calls (map (λ (c : Call). answered c 0) calls) (takes-first sha256 id least most time n (rootAt n) (root-at-32 n) some (omega arith)) (sym (held-at n time some)) (accepts s le)
-    accepts (Served.later {m = m} {t = t} {n = n} {time = time} room {path = w} {calls = calls} order le since e s) h =
-        let v = consistent m n order le room w e in
-        let a = consistency-accepted sha256 m n (rootAt m) (rootAt n) w v in
-        let c = a .counted in
-        let z = a .some in
-        ap (λ (held : Held). run sha256 held (offer id time n (rootAt n) w ∷ calls)) (held-at m t (a .some))
-        ∙ goes-on sha256 (offer id time n (rootAt n) w) (head id t m (rootAt m)) (heldAt n time) calls (map (λ (c : Call). answered c 0) calls)
-        (takes-later sha256 id least most time n (rootAt n) (root-at-32 n) (omega arith) (omega arith) t m (rootAt m) w (omega arith) order since (λ q. ap rootAt q) v)
+    accepts (Served.later {m = m} {t = t} {n = n} {time = time} {calls = calls} some order le later s) h =
+        let v = consistent m n some order le in
+        let c = consistency-accepted sha256 m n (rootAt m) (rootAt n) (since m n) v .counted in
+        ap (λ (held : Held). run sha256 held (offer id time n (rootAt n) (since m n) ∷ calls)) (held-at m t some)
+        ∙ goes-on sha256 (offer id time n (rootAt n) (since m n)) (head id t m (rootAt m)) (heldAt n time) calls (map (λ (c : Call). answered c 0) calls)
+        (takes-later sha256 id least most time n (rootAt n) (root-at-32 n) (omega arith) (omega arith) t m (rootAt m) (since m n) (omega arith) order later (λ q. ap rootAt q) v)
         (sym (held-at n time (omega arith))) (accepts s le)
-    accepts (Served.page {m = m} {t = t} {place = place} room {path = w} {calls = calls} e s) h =
-        let l = shows m h place room w e in
-        let k : w ≡ own m place = written room (own m place) w (sym (own-in m h place room l) ∙ e) in
-        let v : inclusionVerdict sha256 (sha256 (0 ∷ getD pages place [])) place m (rootAt m) w ≡ 0 =
-        ap (λ (x : List ℕ). inclusionVerdict sha256 (sha256 (0 ∷ getD pages place [])) place m (rootAt m) x) k ∙ own-accepted m h place l in
-        let p = held-at m t (omega arith) in
-        goes-on sha256 (ask place (getD pages place []) w) (heldAt m t) (heldAt m t) calls (map (λ (c : Call). answered c 0) calls)
-        (ap (λ (held : Held). number sha256 held (ask place (getD pages place []) w)) p ∙ takes-page sha256 id t m (rootAt m) place (getD pages place []) w (items place) v) refl (accepts s h)
+    accepts (Served.page {m = m} {t = t} {place = place} {calls = calls} l s) h =
+        let item = getD pages place [] in
+        goes-on sha256 (ask place item (own m place)) (heldAt m t) (heldAt m t) calls (map (λ (c : Call). answered c 0) calls)
+        (ap (λ (held : Held). number sha256 held (ask place item (own m place))) (held-at m t (omega arith)) ∙ takes-page sha256 id t m (rootAt m) place item (own m place) (items place) (own-accepted m h place l)) refl (accepts s h)
 
     -- two proofs of the log's own page under one head
     own-settled : (m place pair : ℕ) → place < m → m ≤ length pages → 130 ≤ pair →
@@ -286,8 +238,7 @@ module _ (id : List ℕ) (pages : List (List ℕ)) (all : length pages ≤ large
     follows [] fs m place pair item w h le l g = rw (g .0 .0, g .0 .2) (own-settled m place pair h le l)
     follows (answered (offer id₂ time n s q) zero ∷ es) fs m place pair item w h le l g =
         let k = g .0 in
-        let built = k .4 (omega arith) in
-        rw (k .3, own-carried m n (k .0) (k .2) place (built .0) pair q h (built .1) l) (follows es fs n place pair item w (omega arith) (k .2) l (g .1))
+        rw (k .3, k .4 (omega arith), carried-on m n (omega arith) (k .0) (k .2) place pair h l) (follows es fs n place pair item w (omega arith) (k .2) l (g .1))
     follows (answered (offer id₂ time n s q) (suc j) ∷ es) fs m place pair item w h le l g = absurd g
     follows (answered (ask x other q) zero ∷ es) fs m place pair item w h le l g = follows es fs m place pair item w h le l (g .1)
     follows (answered (ask x other q) (suc j) ∷ es) fs m place pair item w h le l g = absurd g
@@ -327,7 +278,6 @@ honest-log id pages calls least most all items s =
     accepted₀ = same-answers calls ∙ accepts id pages all least most items s (omega arith)
 
 pub grown-heads : GrownHeads
-unfolding hashes
 grown-heads id pages calls n all le e =
     let f = follows-all sha256 calls in
     let k = length-map pages (leaf sha256) in

@@ -6,9 +6,8 @@ use lib.ListN.{length, take, getD}
 use Rattle.hash.specs.Digest.{sha256}
 use Rattle.hash.specs.Answers.{mostItem}
 use Rattle.tree.specs.Limits.{largestSize}
-use Rattle.tree.specs.Tree.{leaf, root}
+use Rattle.tree.specs.Tree.{leaf, root, path, consistency}
 use Rattle.tree.specs.Joined.{nodes, joined}
-use Rattle.tree.specs.Build.{wrote, inclusionBuilt, consistencyBuilt}
 use Rattle.growing.specs.Hashes.{fresh, rootNow}
 use Rattle.growing.specs.Calls as growing
 use Rattle.sha256.specs.Told.{Told}
@@ -50,15 +49,15 @@ module _ (id : List ℕ) (pages : List (List ℕ)) where
   leaves n = take (32 * n) (joined (map (leaf sha256) pages))
 
   -- The calls that it serves, where the head held has size m and timestamp t, and m is 0 where none is held: its heads, the paths from head to head, and
-  -- its pages with their paths, all as the builders make them.
+  -- its pages with their paths, all by the RFC's definitions: a builder makes the same, of as many leaves as a buffer may join.
   pub data Served : ℕ → ℕ → List Call → Type 0 where
     done : {m t : ℕ} → Served m t []
     first : {t n time : ℕ} {calls : List Call} → 0 < n → n ≤ length pages → Served n time calls →
         Served 0 t (offer id time n (root sha256 (nodes (leaves n))) [] ∷ calls)
-    later : {m t n time : ℕ} (room : ℕ) {path : List ℕ} {calls : List Call} → m ≤ n → n ≤ length pages → t ≤ time → consistencyBuilt sha256 (leaves n) m room ≡ wrote path →
-        Served n time calls → Served m t (offer id time n (root sha256 (nodes (leaves n))) path ∷ calls)
-    page : {m t place : ℕ} (room : ℕ) {path : List ℕ} {calls : List Call} → inclusionBuilt sha256 (leaves m) place room ≡ wrote path →
-        Served m t calls → Served m t (ask place (getD pages place []) path ∷ calls)
+    later : {m t n time : ℕ} {calls : List Call} → 0 < m → m ≤ n → n ≤ length pages → t ≤ time → Served n time calls →
+        Served m t (offer id time n (root sha256 (nodes (leaves n))) (joined (consistency sha256 m (nodes (leaves n)))) ∷ calls)
+    page : {m t place : ℕ} {calls : List Call} → place < m → Served m t calls →
+        Served m t (ask place (getD pages place []) (joined (path sha256 place (nodes (leaves m)))) ∷ calls)
 
 -- every head and every page of an honest log is accepted, and a dispute about two of its pages says that they are the same
 pub record HonestFor (id : List ℕ) (pages : List (List ℕ)) (calls : List Call) : Type 0 where

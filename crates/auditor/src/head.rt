@@ -6,7 +6,6 @@ use super::bytes::same_log;
 use crate::Answered;
 use crate::Record;
 use crate::unchanged;
-use tree::limits::LARGEST_SIZE;
 use tree::verdict::consistency_verdict;
 ghost use mathlib.Core.Path.{_≡_};
 ghost use lib.ListN.{length};
@@ -18,10 +17,7 @@ ghost use Rattle.auditor.specs.Offer.{outside, first, against, offerNumb
 fn no_size(size: u64) -> bool
     ensures { λ r. ⌜ r ≡ outside size ⌝ }
 {
-    if size == 0 {
-        return true;
-    }
-    LARGEST_SIZE < size
+    size == 0
 }
 
 // The first head of a record: 6 and 7.

@@ -9,6 +9,7 @@ use lib.Dec.{ltb, eqb}
 use lib.ListN.{length, take, drop, length-append, length-drop}
 use lib.Seq.{take-add}
 use borrow.Author.Tests.{lt-ltb, le-ltb, eq-eqb, ne-eqb, eqb-true}
+use Rattle.tree.specs.Limits.{mostNodes}
 use Rattle.tree.specs.Count.{inclusionCount, subproofCount, consistencyCount}
 use Rattle.tree.specs.Yield.{inclusionRoot, oldRoot, newRoot}
 use Rattle.tree.specs.Joined.{firstNodes, nodes, nodesFrom, joined, hashAt}
@@ -37,8 +38,8 @@ pub record Both (leaf : List ℕ) (place m n : ℕ) (root₁ path proof : List �
   pub path-length : length path ≡ 32 * inclusionCount place m
   pub proof-count : length proof / 32 ≡ subproofCount m n true
   pub proof-length : length proof ≡ 32 * subproofCount m n true
-  pub path-most : inclusionCount place m ≤ 32
-  pub proof-most : subproofCount m n true ≤ 33
+  pub path-most : inclusionCount place m ≤ mostNodes
+  pub proof-most : subproofCount m n true ≤ mostNodes + 1
 
 pub both : (H : List ℕ → List ℕ) (leaf : List ℕ) (place m n : ℕ) (root₁ root₂ path proof : List ℕ) {v w : ℕ} → v ≡ inclusionVerdict H leaf place m root₁ path → v ≡ 0 → w ≡ consistencyVerdict H m n root₁ root₂ proof → w ≡ 0 →
     Both leaf place m n root₁ path proof

@@ -2,7 +2,6 @@
 use hash::Digest;
 use tree::count::inclusion_count;
 use tree::count::subproof_count;
-use tree::limits::LARGEST_SIZE;
 use tree::nodes::equals;
 ghost use mathlib.Core.Path.{_≡_};
 ghost use mathlib.Core.Bool.{true};
@@ -40,9 +39,6 @@ pub(crate) fn fits(
         return false;
     }
     if n < m {
-        return false;
-    }
-    if LARGEST_SIZE < n {
         return false;
     }
     if path / 32 != inclusion_count(place, m) {

@@ -6,6 +6,7 @@ use crate::cut::word;
 use crate::value::NOWHERE;
 use crate::value::decimal;
 use crate::value::put;
+use growing::MOST_HASHES;
 
 // Where the bytes of a request's arguments lie, and a buffer that it may lend.
 pub(crate) const MEMORY: usize = 1048576;
@@ -83,7 +84,7 @@ fn fits(letter: u8, n: usize) -> bool {
     match letter {
         b'h' => n == 32,
         b'i' => n == 127,
-        b'g' => n == 2048,
+        b'g' => n == 32 * MOST_HASHES,
         b'w' => n <= 1024 && n % 4 == 0,
         _ => true,
     }

@@ -12,9 +12,6 @@ ghost use Rattle.growing.specs.Calls.{ofPage, ofLeaves, roomNumber, answ
 fn room_number(count: u64, n: u64) -> u32
     ensures { λ r. ⌜ r ≡ roomNumber count n ⌝ }
 {
-    if LARGEST_SIZE < count {
-        return 6;
-    }
     if LARGEST_SIZE - count < n {
         return 6;
     }

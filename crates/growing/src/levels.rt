@@ -21,7 +21,7 @@ pub(crate) fn none() -> Digest
 }
 
 // The tree with the first n of joined leaf hashes, one after the other: each goes up a level for as long as a hash waits there. The hashes stay in one place,
-// since they are a kilobyte.
+// since they are two kilobytes.
 pub(crate) fn with_leaves(g: Growing, leaves: &[u8], n: usize) -> Growing
     requires { ⌜ (32 * n ≤ length (now leaves)) × (g .count + n < 2 ^ 64) ⌝ }
     ensures { λ r. ⌜ r ≡ withLeaves sha256 g (firstNodes n (now (leaves .entry))) ⌝ }

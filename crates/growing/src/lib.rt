@@ -22,7 +22,7 @@ use tree::build::Built;
 use tree::nodes::copy;
 
 // How many hashes a growing tree keeps.
-pub const MOST_HASHES: usize = 33;
+pub const MOST_HASHES: usize = 64;
 
 pub struct Growing {
     pub hashes: [Digest; MOST_HASHES],

@@ -55,10 +55,6 @@ pub place-none : (place size : ℕ) → size ≡ 0 → noPlace place size ≡ tr
 unfolding noPlace
 place-none place size h = rw (eq-eqb size 0 h)
 
-pub place-many : (place size : ℕ) → largestSize < size → noPlace place size ≡ true
-unfolding noPlace
-place-many place size h = or-right (eqb size 0) _ (rw (lt-ltb largestSize size h))
-
 pub place-past : (place size : ℕ) → size ≤ place → noPlace place size ≡ true
 unfolding noPlace
 place-past place size h = or-right (eqb size 0) _ (or-right (ltb largestSize size) _ (le-leb size place h))
@@ -70,10 +66,6 @@ place-in place size a b c = rw (ne-eqb size 0 a, le-ltb largestSize size b, lt-l
 pub sizes-none : (first second : ℕ) → first ≡ 0 → noSizes first second ≡ true
 unfolding noSizes
 sizes-none first second h = rw (eq-eqb first 0 h)
-
-pub sizes-many : (first second : ℕ) → largestSize < second → noSizes first second ≡ true
-unfolding noSizes
-sizes-many first second h = or-right (eqb first 0) _ (rw (lt-ltb largestSize second h))
 
 pub sizes-past : (first second : ℕ) → second < first → noSizes first second ≡ true
 unfolding noSizes

@@ -114,8 +114,8 @@ unfolding consistencyCount
 bounds = record {
   inclusion = inclusion-most;
   consistency = λ k m n z l h. subproof-most k m n true z l h;
-  inclusion-largest = λ m n l h. inclusion-most mostNodes m n l h;
-  consistency-largest = λ m n z l h. subproof-most mostNodes m n true z l h;
+  inclusion-largest = λ m n l h. inclusion-most mostNodes m n l (omega arith);
+  consistency-largest = λ m n z l h. subproof-most mostNodes m n true z l (omega arith);
 }
 
 -- the definition's paths have so many nodes

@@ -8,11 +8,13 @@ use native.Mathlib.Nat.{pow-zero, pow-succ', add-mul-div-right, add-comm, div-eq
 use lib.Pow.{pow-pos, pow-mono, pow-add, shr-lt}
 use lib.Bits.{bitXor, xor-block, xor-lt, xor-add-and, and-le-l}
 use lib.Arith.{bin-ind}
-use lib.Count.{ones, leadingZeros, trailingZeros, ones-step, ones-cat, ones-le, leading-top, under}
+use lib.Count.{ones, onesIn, leadingZeros, trailingZeros, ones-step, ones-cat, ones-le, leading-top, under}
 use lib.Dec.{eqb}
 use borrow.Author.Tests.{eq-eqb, ne-eqb}
+use Rattle.tree.specs.Limits.{largestSize}
 use Rattle.tree.specs.Split.{split}
-use Rattle.tree.specs.Count.{inclusionCount, subproofCount}
+use Rattle.tree.specs.Count.{inclusionCount, subproofCount, consistencyCount}
+use Rattle.tree.specs.Claims.{Reached}
 use Rattle.tree.proofs.Splitting.{lt-or-ge, split-ends, split-power, split-unique, by-splits}
 use Rattle.tree.proofs.Counting.{count-few, count-low, count-high, inclusion-most, sub-few, sub-all, sub-some, down-low, down-high}
 
@@ -288,3 +290,15 @@ module _ (w n m : ℕ) (most : n ≤ 2 ^ w) (some : 0 < m) (less : m < n) where
       let f = either (eqb (ones m) 1) in
       let s = sub-some m n (split n) false some less refl in
       omega arith
+
+-- at the largest size the bounds are reached
+pub reached : Reached
+unfolding consistencyCount ones onesIn leadingZeros trailingZeros
+reached = record {
+  whole = λ n. (λ h. omega arith, λ h. omega arith);
+  inclusion = sym (count-zeros 64 largestSize 0 (omega arith) (omega arith) .1);
+  consistency =
+      let c = count-zeros 64 largestSize 2 (omega arith) (omega arith) .1 in
+      let d = sub-other 64 largestSize 3 (omega arith) (omega arith) (omega arith) true (λ e. absurd (omega arith)) in
+      omega arith;
+}

@@ -30,6 +30,12 @@ pub record Bounds : Type 0 where
   pub inclusion-largest : (m n : ℕ) → m < n → n ≤ largestSize → inclusionCount m n ≤ mostNodes
   pub consistency-largest : (m n : ℕ) → 0 < m → m ≤ n → n ≤ largestSize → consistencyCount m n ≤ mostNodes + 1
 
+-- the largest size is that of 64 bits, and there the bounds are reached
+pub record Reached : Type 0 where
+  pub whole : (n : ℕ) → (n ≤ largestSize) ↔ (n < 2 ^ 64)
+  pub inclusion : inclusionCount 0 largestSize ≡ mostNodes
+  pub consistency : consistencyCount 3 largestSize ≡ mostNodes + 1
+
 module _ (H : List ℕ → List ℕ) where
   -- the definition's paths have the counted nodes
   pub record Counts : Type 0 where

@@ -14,13 +14,14 @@ pub mod yields; // the roots that a path yields
 ghost use Rattle.sha256.specs.Told.{Faithful};
 ghost use Rattle.tree.specs.Build.{building};
 ghost use Rattle.tree.specs.Equations.{Equations};
-ghost use Rattle.tree.specs.Claims.{OfEvery, OfEvery32, Bounds, Counts, Accepts, Equal, Complete, FullSubtrees};
+ghost use Rattle.tree.specs.Claims.{OfEvery, OfEvery32, Bounds, Reached, Counts, Accepts, Equal, Complete, FullSubtrees};
 
 // What is proved beside the contracts, over any hash: the RFC's equations, the counts of nodes, that the verdicts accept exactly what the definitions
 // yield, all that the builders build among it, and how full subtrees and levels make up a tree. It does nothing.
 pub fn claims()
     ensures equations { λ _. ⌜ OfEvery Equations ⌝ }
     ensures bounds { λ _. ⌜ Bounds ⌝ }
+    ensures reached { λ _. ⌜ Reached ⌝ }
     ensures counts { λ _. ⌜ OfEvery Counts ⌝ }
     ensures accepts { λ _. ⌜ OfEvery Accepts ⌝ }
     ensures equal { λ _. ⌜ OfEvery Equal ⌝ }

@@ -1,7 +1,6 @@
 // The verdicts on proofs: 0 where a proof is accepted, and else the number of the first refusal, in the order 5, 10, 6, 7, 8.
 use super::count::inclusion_count;
 use super::count::subproof_count;
-use super::limits::LARGEST_SIZE;
 use super::nodes::equals;
 use super::nodes::node_at;
 use super::refusal::ACCEPTED;
@@ -32,9 +31,6 @@ pub fn inclusion_verdict(leaf: &[u8], place: u64, size: u64, root: &[u8], path: 
     if size == 0 {
         return RANGE;
     }
-    if LARGEST_SIZE < size {
-        return RANGE;
-    }
     if size <= place {
         return RANGE;
     }
@@ -63,9 +59,6 @@ pub fn consistency_verdict(first: u64, second: u64, old: &[u8], new: &[u8], path
         return JOINED;
     }
     if first == 0 {
-        return RANGE;
-    }
-    if LARGEST_SIZE < second {
         return RANGE;
     }
     if second < first {

@@ -29,25 +29,22 @@ returns-6 c = (λ e. absurd (false≢true e), λ f. absurd (omega (arith, f .bel
 returns-7 : tie.Need-returns-7
 returns-7 c = (λ e. absurd (false≢true e), λ f. absurd (omega (arith, f .order)))
 
-returns-8 : tie.Need-returns-8
-returns-8 c = (λ e. absurd (false≢true e), λ f. absurd (omega (arith, f .in-range)))
-
 inclusion-count-requires : tie.Need-inclusion-count-requires
 inclusion-count-requires c κs = search needs
 
-returns-9 : tie.Need-returns-9
-returns-9 c = (λ e. absurd (false≢true e), λ f. absurd (omega (arith, f .path-length, c .before .inclusion-count .ensures)))
+returns-8 : tie.Need-returns-8
+returns-8 c = (λ e. absurd (false≢true e), λ f. absurd (omega (arith, f .path-length, c .before .inclusion-count .ensures)))
 
 subproof-count-requires : tie.Need-subproof-count-requires
 subproof-count-requires c κs = search needs
 
-returns-10 : tie.Need-returns-10
+returns-9 : tie.Need-returns-9
 unfolding consistencyCount
-returns-10 c =
+returns-9 c =
     let n = c .subproof-count .ensures in
     let m = c .before .before .inclusion-count .ensures in (
       λ e.
-          let k = eqb-true (c .before .before .before .before .before .before .before .before .before .before .before .args .proof / 32) (c .subproof-count .result) e in
+          let k = eqb-true (c .before .before .before .before .before .before .before .before .before .before .args .proof / 32) (c .subproof-count .result) e in
           record {
             leaf-32 = omega arith;
             old-32 = omega arith;
@@ -58,7 +55,7 @@ returns-10 c =
             path-length = omega (arith, m);
             proof-length = omega (arith, n, k);
           },
-      λ f. eq-eqb (c .before .before .before .before .before .before .before .before .before .before .before .args .proof / 32) (c .subproof-count .result) (omega (arith, n, f .proof-length)),
+      λ f. eq-eqb (c .before .before .before .before .before .before .before .before .before .before .args .proof / 32) (c .subproof-count .result) (omega (arith, n, f .proof-length)),
     )
 
 pub fits-spec : {M : Type 1} → statement M
@@ -72,8 +69,7 @@ fits-spec =
     returns-5
     returns-6
     returns-7
-    returns-8
     inclusion-count-requires
-    returns-9
+    returns-8
     subproof-count-requires
-    returns-10)
+    returns-9)

@@ -6,14 +6,13 @@ use Prim.Native.Nat.{ℕ, _/_}
 use lib.ListN.{length}
 use native.Mathlib.Omega.{arith}
 use borrow.Author.Tests.{not-true, not-false}
-use denote.Ref.{now}
 use Rattle.hash.specs.Digest.{sha256}
 use Rattle.tree.specs.Count.{consistencyCount}
 use Rattle.tree.specs.Yield.{oldRoot, newRoot}
 use Rattle.tree.specs.Joined.{firstNodes, nodes, hashAt, same}
 use Rattle.tree.proofs.Joining.{whole-hash, nodes-first}
 use Rattle.tree.specs.Verdict.{consistencyVerdict}
-use Rattle.tree.proofs.Answering.{one-5, two-5, path-10, outside-6, count-7, other-8, right-0, sizes-none, sizes-many, sizes-past, sizes-in, first-apart, second-apart, both-agree}
+use Rattle.tree.proofs.Answering.{one-5, two-5, path-10, outside-6, count-7, other-8, right-0, sizes-none, sizes-past, sizes-in, first-apart, second-apart, both-agree}
 use Rattle.tree.proofs.verdict.consistency_verdict.Statement.{statement}
 use Rattle.tree.proofs.verdict.consistency_verdict.Tie as tie
 
@@ -40,22 +39,18 @@ returns-3 c = path-10 _ _ _ _ _ _ (omega arith) (omega arith) (omega arith)
 
 returns-4 : tie.Need-returns-4
 unfolding consistencyVerdict
-returns-4 c = let a = c .before .before .before .before .before .before .before .args in outside-6 _ _ _ _ _ _ (omega arith) (omega arith) (omega arith) (sizes-none (a .first) (a .second) (omega arith))
+returns-4 c = outside-6 _ _ _ _ _ _ (omega arith) (omega arith) (omega arith) (sizes-none _ _ (omega arith))
 
 returns-5 : tie.Need-returns-5
 unfolding consistencyVerdict
-returns-5 c = let a = c .before .before .before .before .before .before .before .before .args in outside-6 _ _ _ _ _ _ (omega arith) (omega arith) (omega arith) (sizes-many (a .first) (a .second) (omega arith))
-
-returns-6 : tie.Need-returns-6
-unfolding consistencyVerdict
-returns-6 c = let a = c .before .before .before .before .before .before .before .before .before .args in outside-6 _ _ _ _ _ _ (omega arith) (omega arith) (omega arith) (sizes-past (a .first) (a .second) (omega arith))
+returns-5 c = outside-6 _ _ _ _ _ _ (omega arith) (omega arith) (omega arith) (sizes-past _ _ (omega arith))
 
 subproof-count-requires : tie.Need-subproof-count-requires
 subproof-count-requires c κs = omega arith
 
-returns-7 : tie.Need-returns-7
+returns-6 : tie.Need-returns-6
 unfolding consistencyVerdict consistencyCount
-returns-7 c = let a = c .before .before .before .before .before .before .before .before .before .before .before .args in count-7 _ _ _ _ _ _ (omega arith) (omega arith) (omega arith) (sizes-in (a .first) (a .second) (omega arith) (omega arith) (omega arith)) (omega arith)
+returns-6 c = count-7 _ _ _ _ _ _ (omega arith) (omega arith) (omega arith) (sizes-in _ _ (omega arith) (omega arith) (omega arith)) (omega arith)
 
 node-at-requires : tie.Need-node-at-requires
 node-at-requires c κs = omega arith
@@ -66,32 +61,29 @@ consistency-roots-requires c κs = (omega arith, omega arith, omega arith, omega
 equals-requires : tie.Need-equals-requires
 equals-requires c κs = omega arith
 
-returns-8 : tie.Need-returns-8
+returns-7 : tie.Need-returns-7
 unfolding consistencyVerdict consistencyCount
-returns-8 c =
-    let a = c .before .before .before .before .before .before .before .before .before .before .before .before .before .before .before .before .args in
+returns-7 c =
     let e = c .before .before .before .consistency-roots .ensures in
     let f = c .before .before .before .before .node-at .ensures in
-    other-8 _ _ _ _ _ _ (omega arith) (omega arith) (omega arith) (sizes-in (a .first) (a .second) (omega arith) (omega arith) (omega arith)) (omega arith) (first-apart _ _ (old-is (a .first) (a .second) (now (a .old)) (now (a .path)) (e .0) f (omega arith) ∙ sym (c .before .equals .ensures) ∙ not-true (c .before .equals .result) (c .if8 .taken)))
+    other-8 _ _ _ _ _ _ (omega arith) (omega arith) (omega arith) (sizes-in _ _ (omega arith) (omega arith) (omega arith)) (omega arith) (first-apart _ _ (old-is _ _ _ _ (e .0) f (omega arith) ∙ sym (c .before .equals .ensures) ∙ not-true (c .before .equals .result) (c .if7 .taken)))
 
 equals-requires-2 : tie.Need-equals-requires-2
 equals-requires-2 c κs = omega arith
 
+returns-8 : tie.Need-returns-8
+unfolding consistencyVerdict consistencyCount
+returns-8 c =
+    let e = c .before .before .before .before .before .before .consistency-roots .ensures in
+    let f = c .before .before .before .before .before .before .before .node-at .ensures in
+    other-8 _ _ _ _ _ _ (omega arith) (omega arith) (omega arith) (sizes-in _ _ (omega arith) (omega arith) (omega arith)) (omega arith) (second-apart _ _ (old-is _ _ _ _ (e .0) f (omega arith) ∙ sym (c .before .before .before .before .equals .ensures) ∙ not-false (c .before .before .before .before .equals .result) (c .before .before .before .if7 .left)) (new-is _ _ _ _ _ (e .1) f (omega arith) ∙ sym (c .before .equals2 .ensures) ∙ not-true (c .before .equals2 .result) (c .if8 .taken)))
+
 returns-9 : tie.Need-returns-9
 unfolding consistencyVerdict consistencyCount
 returns-9 c =
-    let a = c .before .before .before .before .before .before .before .before .before .before .before .before .before .before .before .before .before .before .before .args in
     let e = c .before .before .before .before .before .before .consistency-roots .ensures in
     let f = c .before .before .before .before .before .before .before .node-at .ensures in
-    other-8 _ _ _ _ _ _ (omega arith) (omega arith) (omega arith) (sizes-in (a .first) (a .second) (omega arith) (omega arith) (omega arith)) (omega arith) (second-apart _ _ (old-is (a .first) (a .second) (now (a .old)) (now (a .path)) (e .0) f (omega arith) ∙ sym (c .before .before .before .before .equals .ensures) ∙ not-false (c .before .before .before .before .equals .result) (c .before .before .before .if8 .left)) (new-is (a .first) (a .second) (now (a .old)) (now (a .new)) (now (a .path)) (e .1) f (omega arith) ∙ sym (c .before .equals2 .ensures) ∙ not-true (c .before .equals2 .result) (c .if9 .taken)))
-
-returns-10 : tie.Need-returns-10
-unfolding consistencyVerdict consistencyCount
-returns-10 c =
-    let a = c .before .before .before .before .before .before .before .before .before .before .before .before .before .before .before .before .before .before .before .args in
-    let e = c .before .before .before .before .before .before .consistency-roots .ensures in
-    let f = c .before .before .before .before .before .before .before .node-at .ensures in
-    right-0 _ _ _ _ _ _ (omega arith) (omega arith) (omega arith) (sizes-in (a .first) (a .second) (omega arith) (omega arith) (omega arith)) (omega arith) (both-agree _ _ (old-is (a .first) (a .second) (now (a .old)) (now (a .path)) (e .0) f (omega arith) ∙ sym (c .before .before .before .before .equals .ensures) ∙ not-false (c .before .before .before .before .equals .result) (c .before .before .before .if8 .left)) (new-is (a .first) (a .second) (now (a .old)) (now (a .new)) (now (a .path)) (e .1) f (omega arith) ∙ sym (c .before .equals2 .ensures) ∙ not-false (c .before .equals2 .result) (c .if9 .left)))
+    right-0 _ _ _ _ _ _ (omega arith) (omega arith) (omega arith) (sizes-in _ _ (omega arith) (omega arith) (omega arith)) (omega arith) (both-agree _ _ (old-is _ _ _ _ (e .0) f (omega arith) ∙ sym (c .before .before .before .before .equals .ensures) ∙ not-false (c .before .before .before .before .equals .result) (c .before .before .before .if7 .left)) (new-is _ _ _ _ _ (e .1) f (omega arith) ∙ sym (c .before .equals2 .ensures) ∙ not-false (c .before .equals2 .result) (c .if8 .left)))
 
 pub consistency-verdict-spec : {M : Type 1} → statement M
 consistency-verdict-spec =
@@ -102,13 +94,12 @@ consistency-verdict-spec =
     returns-3
     returns-4
     returns-5
-    returns-6
     subproof-count-requires
-    returns-7
+    returns-6
     node-at-requires
     consistency-roots-requires
     equals-requires
-    returns-8
+    returns-7
     equals-requires-2
-    returns-9
-    returns-10)
+    returns-8
+    returns-9)
