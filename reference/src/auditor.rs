@@ -189,7 +189,7 @@ pub struct Dispute {
 }
 
 /// The most nodes of an inclusion path.
-const LONGEST_PATH: usize = 64;
+const MOST_NODES: usize = 64;
 
 /// A head as a dispute takes it: size 8 bytes, root 32, count of nodes 2, the
 /// nodes of its consistency path. The path is a multiple of 32.
@@ -258,7 +258,7 @@ fn settle(h: HashFunction, one: &Dispute, pair: &mut [u8]) -> Result<Settled, u6
     let mut heads = &one.heads[..];
     while !heads.is_empty() {
         let (new_size, new_root, step) = next_head(&mut heads).ok_or(2u64)?;
-        let mut lent = [0; 32 * LONGEST_PATH];
+        let mut lent = [0; 32 * MOST_NODES];
         let old = Inclusion { leaf: &leaf, place, size, root, path: &path };
         match carry(h, &old, new_size, new_root, step, &mut lent, pair)? {
             Carried::Path(length) => path = lent[..length].to_vec(),
