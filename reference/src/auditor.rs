@@ -3,7 +3,7 @@
 
 use crate::carry::{carry, compare, Carried, Compared, PAIR};
 use crate::item::LONGEST_ITEM;
-use crate::tree::{hashes, leaf_hash, Hash, HashFunction, MOST_LEAVES};
+use crate::tree::{hashes, leaf_hash, Hash, HashFunction};
 use crate::verdict::{self, Consistency, Inclusion};
 
 #[derive(Clone, Debug, PartialEq, Eq)]
@@ -59,7 +59,8 @@ fn judge_offer(h: HashFunction, record: &Record, offer: &Offer) -> Result<Head, 
     if hashes(&offer.path).is_none() {
         return Err(10);
     }
-    let in_range = (1..=MOST_LEAVES).contains(&offer.size);
+    // No size is above the largest.
+    let in_range = offer.size > 0;
     match record {
         None => {
             if !in_range {
@@ -187,6 +188,9 @@ pub struct Dispute {
     pub second_path: Vec<u8>,
 }
 
+/// The most nodes of an inclusion path.
+const LONGEST_PATH: usize = 64;
+
 /// A head as a dispute takes it: size 8 bytes, root 32, count of nodes 2, the
 /// nodes of its consistency path. The path is a multiple of 32.
 pub fn join_head(size: u64, root: &[u8], path: &[u8], heads: &mut Vec<u8>) {
@@ -254,7 +258,7 @@ fn settle(h: HashFunction, one: &Dispute, pair: &mut [u8]) -> Result<Settled, u6
     let mut heads = &one.heads[..];
     while !heads.is_empty() {
         let (new_size, new_root, step) = next_head(&mut heads).ok_or(2u64)?;
-        let mut lent = [0; 32 * 32];
+        let mut lent = [0; 32 * LONGEST_PATH];
         let old = Inclusion { leaf: &leaf, place, size, root, path: &path };
         match carry(h, &old, new_size, new_root, step, &mut lent, pair)? {
             Carried::Path(length) => path = lent[..length].to_vec(),
@@ -317,8 +321,8 @@ mod tests {
     use crate::carry::weak;
     use crate::random::Random;
     use crate::servers::{Kind, Server, KINDS};
-    use crate::sha256::digest;
-    use crate::tree;
+    use crate::sha256::{digest, node};
+    use crate::tree::{self, LARGEST_SIZE};
 
     fn head(size: u64, timestamp: u64, root: Hash) -> Record {
         Some(Head { log_id: b"log".to_vec(), timestamp, size, root })
@@ -345,9 +349,47 @@ mod tests {
         assert_eq!(bad(|o| (o.root.push(0), o.path.push(0)).0), 5);
         assert_eq!(bad(|o| (o.size = 0, o.path.push(0)).1), 10);
         assert_eq!(bad(|o| (o.size = 0, o.path.extend([0; 32])).1), 6);
-        assert_eq!(bad(|o| o.size = MOST_LEAVES + 1), 6);
+        assert_eq!(bad(|o| o.size = 0), 6);
         assert_eq!(bad(|o| o.path.extend([0; 32])), 7);
         assert_eq!(page(digest, &None, &PageCall { place: 0, page: vec![0; LONGEST_ITEM + 1], path: vec![] }), 14);
+        for size in [1, 1 << 32, (1 << 32) + 1, 1 << 63, LARGEST_SIZE - 1, LARGEST_SIZE] {
+            assert_eq!(offer(digest, &None, &an_offer(size, 5, [1; 32], &[])), (0, head(size, 5, [1; 32])));
+        }
+    }
+
+    /// Heads past 2^32 and up to the largest size, held, offered and disputed.
+    #[test]
+    fn large_sizes() {
+        let (a, b) = ([1; 32], [2; 32]);
+        assert_eq!(
+            offer(digest, &head(1 << 32, 5, a), &an_offer((1 << 32) + 1, 5, node(&a, &b), &b)),
+            (0, head((1 << 32) + 1, 5, node(&a, &b)))
+        );
+        let held = head(LARGEST_SIZE, 5, a);
+        assert_eq!(offer(digest, &held, &an_offer(LARGEST_SIZE, 6, a, &[])), (0, head(LARGEST_SIZE, 6, a)));
+        assert_eq!(offer(digest, &held, &an_offer(LARGEST_SIZE - 1, 6, a, &[])), (6, held.clone()));
+        assert_eq!(offer(digest, &held, &an_offer(LARGEST_SIZE, 6, b, &[])), (13, held.clone()));
+        assert_eq!(page(digest, &held, &PageCall { place: LARGEST_SIZE, page: vec![], path: vec![0; 64 * 32] }), 6);
+        assert_eq!(page(digest, &held, &PageCall { place: LARGEST_SIZE - 1, page: vec![], path: vec![0; 64 * 32] }), 7);
+        assert_eq!(page(digest, &held, &PageCall { place: LARGEST_SIZE - 1, page: vec![], path: vec![0; 63 * 32] }), 8);
+
+        // A path of one node that becomes one of 64.
+        let leaf = leaf_hash(digest, b"page");
+        let root = node(&leaf, &b);
+        let mut heads = Vec::new();
+        let step = vec![3; 32 * 63];
+        let last = hashes(&step).unwrap().iter().fold(root, |root, sibling| node(&root, sibling));
+        join_head(LARGEST_SIZE, &last, &step, &mut heads);
+        let one = Dispute {
+            first: PageCall { place: 0, page: b"page".to_vec(), path: b.to_vec() },
+            size: 2,
+            root: root.to_vec(),
+            heads,
+            second_page: b"page".to_vec(),
+            second_path: [&b[..], &step].concat(),
+        };
+        assert_eq!(dispute(digest, &one, &mut [0; 130]), Settled::Same);
+        assert_eq!(dispute(digest, &Dispute { second_path: step, ..one }, &mut [0; 130]), Settled::Refused(7));
     }
 
     #[test]
@@ -408,7 +450,7 @@ mod tests {
         assert_eq!(bad(|o| (o.log_id = b"lag".to_vec(), o.size = 1).1), 11);
         assert_eq!(bad(|o| (o.size = 1, o.timestamp = 4).1), 6);
         assert_eq!(bad(|o| o.size = 0), 6);
-        assert_eq!(bad(|o| o.size = MOST_LEAVES + 1), 6);
+        assert_eq!(bad(|o| o.size = LARGEST_SIZE), 7);
         assert_eq!(bad(|o| (o.size = 2, o.timestamp = 4).1), 12);
         assert_eq!(bad(|o| o.size = 2), 13);
         assert_eq!(bad(|o| o.path.extend([0; 32])), 7);
@@ -459,7 +501,7 @@ mod tests {
     }
 
     fn some_calls(h: HashFunction, kind: Kind, bits: u64, tries: usize, random: &mut Random) -> Vec<Call> {
-        let most = 1 << random.below(bits + 1);
+        let most = u64::MAX >> random.between(64 - bits, 63);
         Server::random(h, kind, most, random).calls(40, tries, random)
     }
 
@@ -469,7 +511,7 @@ mod tests {
         let random = &mut Random::new(3);
         let mut all = 0;
         for _ in 0..20 {
-            let calls = some_calls(digest, Kind::Honest, 32, 0, random);
+            let calls = some_calls(digest, Kind::Honest, 64, 0, random);
             let refused = run(digest, &calls).into_iter().find(|(number, _)| *number != 0 && *number != 14);
             assert_eq!(refused, None);
             let [same, nodes, pages] = check_list(digest, &calls);

@@ -5,6 +5,7 @@
 use crate::tree::{hashes, node_hash, split, Hash, HashFunction};
 use crate::verdict::{self, Consistency, Inclusion};
 use crate::yields;
+use std::cell::RefCell;
 use std::collections::HashMap;
 use std::ops::Range;
 
@@ -59,30 +60,35 @@ pub fn consistency_places(m: u64, leaves: Leaves, known: bool) -> Vec<Leaves> {
     places
 }
 
-/// Hashes of some nodes.
+/// Hashes of some nodes, and those that were hashed from them: a long path asks
+/// for these again at each of its levels.
 pub struct Known {
     h: HashFunction,
     nodes: HashMap<Leaves, Hash>,
+    hashed: RefCell<HashMap<Leaves, Hash>>,
 }
 
 impl Known {
     pub fn new(h: HashFunction, places: Vec<Leaves>, nodes: &[Hash]) -> Known {
         assert_eq!(places.len(), nodes.len());
-        Known { h, nodes: places.into_iter().zip(nodes.iter().copied()).collect() }
+        Known { h, nodes: places.into_iter().zip(nodes.iter().copied()).collect(), hashed: RefCell::default() }
     }
 
     pub fn with(mut self, leaves: Leaves, hash: &Hash) -> Known {
         self.nodes.insert(leaves, *hash);
+        self.hashed.take();
         self
     }
 
     /// The hash of a node that is known, or whose parts are.
     pub fn hash(&self, leaves: &Leaves) -> Hash {
-        if let Some(hash) = self.nodes.get(leaves) {
-            return *hash;
-        }
-        let (first, rest) = parts(leaves);
-        node_hash(self.h, &self.hash(&first), &self.hash(&rest))
+        let before = self.nodes.get(leaves).copied().or_else(|| self.hashed.borrow().get(leaves).copied());
+        before.unwrap_or_else(|| {
+            let (first, rest) = parts(leaves);
+            let hash = node_hash(self.h, &self.hash(&first), &self.hash(&rest));
+            self.hashed.borrow_mut().insert(leaves.clone(), hash);
+            hash
+        })
     }
 
     /// 0x01 || left || right.

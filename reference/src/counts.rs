@@ -2,6 +2,7 @@
 //! numbers, in the papers' range and out of it, and each answer compared with
 //! the recursive count as it comes.
 
+use crate::proofs::next_to_powers;
 use crate::random::Random;
 use crate::yields::{inclusion_count, subproof_count};
 use std::io::{self, BufRead, BufReader, BufWriter, Error, Read, Write};
@@ -35,7 +36,7 @@ const ASKED: [Asked; 3] = [
 /// ones, half of them of any length in bits.
 fn pairs(seed: u64) -> impl Iterator<Item = (u64, u64)> + Clone {
     let small = (0..=SMALL).flat_map(|m| (0..=SMALL).map(move |n| (m, n)));
-    let near = next_to_powers();
+    let near = next_to_powers(2);
     let next = near.clone().into_iter().flat_map(move |m| near.clone().into_iter().map(move |n| (m, n)));
     let mut random = Random::new(seed);
     let any = (0..RANDOM).map(move |_| match random.one_in(2) {
@@ -43,15 +44,6 @@ fn pairs(seed: u64) -> impl Iterator<Item = (u64, u64)> + Clone {
         false => (random.draw() >> random.below(64), random.draw() >> random.below(64)),
     });
     small.chain(next).chain(any)
-}
-
-/// The numbers below 2^64 that are a power of two, up to 2^64, or at most 2 from one.
-fn next_to_powers() -> Vec<u64> {
-    let near = (0..=64).flat_map(|bit| (-2..=2).map(move |more| (1i128 << bit) + more));
-    let mut numbers: Vec<u64> = near.filter_map(|number| number.try_into().ok()).collect();
-    numbers.sort();
-    numbers.dedup();
-    numbers
 }
 
 fn write_requests(pairs: impl Iterator<Item = (u64, u64)>, mut out: impl Write) -> io::Result<()> {
@@ -215,9 +207,7 @@ mod tests {
 
     #[test]
     fn all_pairs() {
-        let near = next_to_powers();
-        assert_eq!(near[..12], [0, 1, 2, 3, 4, 5, 6, 7, 8, 9, 10, 14]);
-        assert_eq!(near[near.len() - 4..], [(1 << 63) + 1, (1 << 63) + 2, u64::MAX - 1, u64::MAX]);
+        let near = next_to_powers(2);
         let small = (SMALL + 1).pow(2) as usize;
         let count = small + near.len().pow(2) + RANDOM as usize;
         assert_eq!(pairs(1).count(), count);

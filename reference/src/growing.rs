@@ -3,10 +3,10 @@
 //! the list of all its leaves and the recursive definition alone.
 
 use crate::item::LONGEST_ITEM;
-use crate::tree::{self, hand_out, hashes, leaf_hash, leaves_of, node_hash, Hash, HashFunction, MOST_LEAVES};
+use crate::tree::{self, hand_out, hashes, leaf_hash, leaves_of, node_hash, Hash, HashFunction, LARGEST_SIZE, MOST_LEAVES};
 
-/// Level i stands for 2^i leaves, up to 2^32.
-pub const LEVELS: usize = 33;
+/// Level i stands for 2^i leaves, up to 2^63: a size has 64 bits.
+pub const LEVELS: usize = 64;
 /// What a level holds that stands for no leaves.
 pub const NOTHING: Hash = [0; 32];
 
@@ -47,9 +47,9 @@ pub fn leaves_refusal(length: u64, count: u64) -> u64 {
     }
 }
 
-/// A count that is past it already has no room for 0 more either.
+/// No sum is made that would wrap.
 fn past_the_limit(count: u64, more: u64) -> bool {
-    !count.checked_add(more).is_some_and(|sum| sum <= MOST_LEAVES)
+    more > LARGEST_SIZE - count
 }
 
 impl Growing {
@@ -90,7 +90,7 @@ impl Growing {
         self.count >> level & 1 == 1
     }
 
-    /// For a count below the limit: the lowest 33 bits are not all ones.
+    /// For a count below the limit: its bits are not all ones.
     fn add(&mut self, h: HashFunction, leaf: &Hash) {
         let (mut level, mut hash) = (0, *leaf);
         while self.counts(level) {
@@ -122,8 +122,8 @@ pub fn of_list(h: HashFunction, leaves: &[Hash]) -> Growing {
     let mut tree = Growing { count: n as u64, ..Growing::NEW };
     for (level, hash) in tree.hashes.iter_mut().enumerate() {
         if n >> level & 1 == 1 {
-            let start = n >> (level + 1) << (level + 1);
-            *hash = tree::root(h, &leaves[start..start + (1 << level)]);
+            let start = ((n >> level) - 1) << level;
+            *hash = tree::root(h, &leaves[start..][..1 << level]);
         }
     }
     tree
@@ -171,7 +171,7 @@ fn added(h: HashFunction, call: &Call, length: usize) -> Result<Vec<Hash>, u64> 
         Call::Page(page) => vec![leaf_hash(h, page)],
         Call::Leaves(joined) => leaves_of(joined)?,
     };
-    if length + more.len() > MOST_LEAVES as usize {
+    if length as u128 + more.len() as u128 > LARGEST_SIZE as u128 {
         return Err(6);
     }
     Ok(more)
@@ -226,17 +226,36 @@ mod tests {
         assert_eq!((&grown.tree.hashes[2..], grown.tree.count), (&[NOTHING; LEVELS - 2][..], 3));
     }
 
-    /// The last leaf that there is room for merges all levels.
+    /// A leaf that merges all levels below, up to the highest; 2^32 is a size as any other.
+    #[test]
+    fn merged_levels() {
+        let random = &mut Random::new(32);
+        for level in [1, 31, 32, 33, 62, 63] {
+            let tree = made_up((1 << level) - 1, random);
+            let merged = tree.hashes[..level].iter().fold(leaf(b"page"), |right, left| node(left, &right));
+            let (number, after) = tree.page(digest, b"page");
+            assert_eq!((number, after.count, after.root(digest)), (0, 1 << level, merged));
+            assert_eq!((&after.hashes[..level], after.hashes[level]), (&vec![NOTHING; level][..], merged));
+            assert_eq!(after.hashes[level + 1..], tree.hashes[level + 1..]);
+            assert_eq!(tree.leaves(digest, &leaf(b"page")), (0, after.clone()));
+            let (number, more) = after.leaves(digest, &[5; 32]);
+            assert_eq!((number, more.count, more.root(digest)), (0, (1 << level) + 1, node(&merged, &[5; 32])));
+        }
+    }
+
+    /// The last leaf that there is room for: its level is the lowest, and then all levels count.
     #[test]
     fn top() {
-        let random = &mut Random::new(32);
-        let top = made_up(MOST_LEAVES - 1, random);
-        let merged = top.hashes[..32].iter().fold(leaf(b"page"), |right, left| node(left, &right));
+        let random = &mut Random::new(64);
+        let top = made_up(LARGEST_SIZE - 1, random);
         let (number, full) = top.page(digest, b"page");
-        assert_eq!((number, full.count, full.root(digest)), (0, MOST_LEAVES, merged));
-        assert_eq!((&full.hashes[..32], full.hashes[32]), (&[NOTHING; 32][..], merged));
+        assert_eq!((number, full.count, full.hashes[0]), (0, LARGEST_SIZE, leaf(b"page")));
+        assert_eq!(full.hashes[1..], top.hashes[1..]);
+        assert_eq!(full.root(digest), full.hashes[1..].iter().fold(leaf(b"page"), |right, left| node(left, &right)));
         assert_eq!(top.leaves(digest, &leaf(b"page")), (0, full.clone()));
-        for (tree, length, number) in [(&top, 64, 6), (&top, 65, 10), (&full, 31, 10), (&full, 32, 6), (&full, 0, 0)] {
+        let refused =
+            [(&top, 64, 6), (&top, 33, 10), (&top, 65, 10), (&full, 31, 10), (&full, 32, 6), (&full, 64, 6), (&full, 0, 0), (&top, 0, 0)];
+        for (tree, length, number) in refused {
             assert_eq!(tree.leaves(digest, &vec![0; length]), (number, tree.clone()));
         }
         assert_eq!(full.page(digest, b"p"), (6, full.clone()));
@@ -253,21 +272,24 @@ mod tests {
     fn refusals_by_numbers() {
         let most = 32 * MOST_LEAVES;
         for (length, count, number) in [
-            (0, MOST_LEAVES, 0),
-            (0, MOST_LEAVES + 1, 6),
-            (0, u64::MAX, 6),
-            (32, MOST_LEAVES - 1, 0),
-            (32, MOST_LEAVES, 6),
-            (32, u64::MAX, 6),
-            (33, u64::MAX, 10),
-            (64, u64::MAX, 6),
+            (0, (1 << 32) + 1, 0),
+            (0, LARGEST_SIZE, 0),
+            (32, 1 << 32, 0),
+            (32, LARGEST_SIZE - 1, 0),
+            (32, LARGEST_SIZE, 6),
+            (33, LARGEST_SIZE, 10),
+            (64, LARGEST_SIZE - 2, 0),
+            (64, LARGEST_SIZE - 1, 6),
+            (64, LARGEST_SIZE, 6),
+            // The most leaves of one call: their own limit, whatever the count.
             (most, 0, 0),
-            (most - 32, 1, 0),
-            (most, 1, 6),
-            (most, u64::MAX, 6),
-            (most - 32, u64::MAX, 6),
+            (most, 1 << 32, 0),
+            (most, LARGEST_SIZE - MOST_LEAVES, 0),
+            (most, LARGEST_SIZE - MOST_LEAVES + 1, 6),
+            (most, LARGEST_SIZE, 6),
+            (most - 32, LARGEST_SIZE, 6),
             (most + 32, 0, 10),
-            (most + 32, u64::MAX, 10),
+            (most + 32, LARGEST_SIZE, 10),
             (most - 1, 0, 10),
             (u64::MAX - 31, 0, 10),
         ] {
@@ -276,12 +298,13 @@ mod tests {
         let most = LONGEST_ITEM as u64;
         for (length, count, number) in [
             (0, 0, 0),
-            (most, MOST_LEAVES - 1, 0),
-            (0, MOST_LEAVES, 6),
-            (most, u64::MAX, 6),
+            (most, 1 << 32, 0),
+            (most, LARGEST_SIZE - 1, 0),
+            (0, LARGEST_SIZE, 6),
+            (most, LARGEST_SIZE, 6),
             (most + 1, 0, 1),
-            (most + 1, MOST_LEAVES, 1),
-            (u64::MAX, u64::MAX, 1),
+            (most + 1, LARGEST_SIZE, 1),
+            (u64::MAX, LARGEST_SIZE, 1),
         ] {
             assert_eq!(page_refusal(length, count), number, "{length} bytes, {count} leaves");
         }
@@ -398,7 +421,7 @@ mod tests {
     /// The hash of the 2^level leaves from index * 2^level on, of the leaves
     /// that a state stands for and those that follow.
     fn subtree(state: &Growing, more: &[Hash], level: usize, index: u64) -> Hash {
-        if (index + 1) << level <= state.count {
+        if (index as u128 + 1) << level <= state.count as u128 {
             assert_eq!((state.count >> level, index & 1), (index + 1, 0));
             state.hashes[level]
         } else if level == 0 {
@@ -435,16 +458,17 @@ mod tests {
     fn any_state() {
         let random = &mut Random::new(33);
         for turn in 0..4_000 {
-            let count = match turn % 3 {
-                0 => random.draw() >> random.between(32, 63),
-                1 => (1 << random.below(33)) - random.below(2),
-                _ => MOST_LEAVES - random.below(40),
+            let count = match turn % 4 {
+                0 => random.draw() >> random.below(64),
+                1 => (1 << random.below(64)) - random.below(2),
+                2 => (1 << 32) + 20 - random.below(40),
+                _ => LARGEST_SIZE - random.below(40),
             };
             let state = made_up(count, random);
             assert_eq!(state.root(digest), root_of(&state.hashes, count));
             let more = some_hashes(random.below(20) as usize, random);
             let (number, one) = state.leaves(digest, &more.concat());
-            if count + more.len() as u64 > MOST_LEAVES {
+            if count as u128 + more.len() as u128 > LARGEST_SIZE as u128 {
                 assert_eq!((number, one), (6, state));
                 continue;
             }
@@ -454,10 +478,6 @@ mod tests {
                 (_, each) = each.leaves(digest, leaf);
             }
             assert_eq!(each, one);
-        }
-        for count in [1 << 33, 5 << 40, u64::MAX, u64::MAX << 32] {
-            let state = made_up(count, random);
-            assert_eq!(state.root(digest), root_of(&state.hashes, count & ((1 << LEVELS) - 1)));
         }
     }
 }

@@ -3,8 +3,8 @@
 use crate::random::Random;
 use crate::requests::Requests;
 use crate::sha256::digest;
-use crate::tree::{self, Hash, MOST_LEAVES};
-use crate::words::{bytes, number, Word};
+use crate::tree::{self, Hash, LARGEST_SIZE};
+use crate::words::{bytes, number, short, Word};
 use crate::{verdict, yields};
 
 /// The numbers and strings of one verdict: inclusion has the place, the size,
@@ -44,13 +44,13 @@ impl Proof {
         let [one, two] = self.numbers.map(number);
         let [first, second] = &self.hashes;
         if self.is_inclusion {
-            vec![bytes(first), one, two, bytes(second), bytes(&self.path)]
+            vec![short(first), one, two, short(second), short(&self.path)]
         } else {
-            vec![one, two, bytes(first), bytes(second), bytes(&self.path)]
+            vec![one, two, short(first), short(second), short(&self.path)]
         }
     }
 
-    fn with(&self, change: impl FnOnce(&mut Proof)) -> Proof {
+    pub fn with(&self, change: impl FnOnce(&mut Proof)) -> Proof {
         let mut changed = self.clone();
         change(&mut changed);
         changed
@@ -137,41 +137,98 @@ pub fn damaged_lengths(proof: &Proof, random: &mut Random) -> Vec<Proof> {
     all
 }
 
-/// An accepted proof for any place and size: the nodes are chosen freely and
-/// the root is the one they yield.
-pub fn made_inclusion(place: u64, size: u64, random: &mut Random) -> Proof {
-    let leaf = random.hash();
-    let nodes: Vec<Hash> = (0..yields::inclusion_count(place, size)).map(|_| random.hash()).collect();
+/// A proof that is accepted, and with it what is not: a node more and one fewer,
+/// another hash, and no place of that size, or a first size of 0 or above the second.
+/// Each has its number. A node more is the last one again, or else a copy of the first hash.
+pub fn judged(proof: &Proof) -> Vec<(u64, Proof)> {
+    let mut all = vec![(0, proof.clone())];
+    let node = proof.path.last_chunk::<32>().copied().unwrap_or(proof.hashes[0][..].try_into().unwrap());
+    all.push((7, proof.with(|p| p.path.extend(node))));
+    if !proof.path.is_empty() {
+        all.push((7, proof.with(|p| p.path.truncate(p.path.len() - 32))));
+    }
+    all.extend([0, 1].map(|which| (8, proof.with(|p| p.hashes[which][31] ^= 128))));
+    let size = proof.numbers[1];
+    let bad = if proof.is_inclusion { [Some(size), Some(u64::MAX)] } else { [Some(0), size.checked_add(1)] };
+    all.extend(bad.into_iter().flatten().map(|bad| (6, proof.with(|p| p.numbers[0] = bad))));
+    all.push((6, proof.with(|p| p.numbers[1] = 0)));
+    all
+}
+
+/// An accepted proof for any place and size: the leaf hash and the nodes are free,
+/// and the root is the one they yield.
+fn free_inclusion(place: u64, size: u64, mut free: impl FnMut() -> Hash) -> Proof {
+    let leaf = free();
+    let nodes: Vec<Hash> = (0..yields::inclusion_count(place, size)).map(|_| free()).collect();
     let root = yields::inclusion(digest, &leaf, place, size, &nodes).unwrap();
     Proof::inclusion(&leaf, place, size, &root, &nodes)
 }
 
 /// An accepted proof for any two sizes, the first above 0 and not above the second.
-pub fn made_consistency(first: u64, second: u64, random: &mut Random) -> Proof {
-    let known = random.hash();
-    let nodes: Vec<Hash> = (0..yields::consistency_count(first, second)).map(|_| random.hash()).collect();
+fn free_consistency(first: u64, second: u64, mut free: impl FnMut() -> Hash) -> Proof {
+    let known = free();
+    let nodes: Vec<Hash> = (0..yields::consistency_count(first, second)).map(|_| free()).collect();
     let (first_root, second_root) =
         if first == second { (known, known) } else { yields::consistency(digest, first, second, &known, &nodes).unwrap() };
     Proof::consistency(first, second, &first_root, &second_root, &nodes)
 }
 
-/// Sizes next to the limit, to the middle and to the end of the numbers.
-pub const LARGE: [u64; 15] = [
+pub fn made_inclusion(place: u64, size: u64, random: &mut Random) -> Proof {
+    free_inclusion(place, size, || random.hash())
+}
+
+pub fn made_consistency(first: u64, second: u64, random: &mut Random) -> Proof {
+    free_consistency(first, second, || random.hash())
+}
+
+/// Of one byte over and over, which a request writes shorter.
+pub fn plain_inclusion(place: u64, size: u64, byte: u8) -> Proof {
+    free_inclusion(place, size, || [byte; 32])
+}
+
+pub fn plain_consistency(first: u64, second: u64, byte: u8) -> Proof {
+    free_consistency(first, second, || [byte; 32])
+}
+
+/// The numbers below 2^64 that are a power of two, up to 2^64, or at most `far` from one.
+pub fn next_to_powers(far: i128) -> Vec<u64> {
+    let near = (0..=64).flat_map(|bit| (-far..=far).map(move |more| (1i128 << bit) + more));
+    let mut numbers: Vec<u64> = near.filter_map(|number| number.try_into().ok()).collect();
+    numbers.sort();
+    numbers.dedup();
+    numbers
+}
+
+/// Some places of a size above 1: the ends, those next to its split and to another
+/// power of two, and any.
+pub fn some_places(size: u64, random: &mut Random) -> Vec<u64> {
+    let (split, power) = (tree::split(size), 1 << random.below(size.ilog2() as u64 + 1));
+    let mut all = vec![0, 1, split - 1, split, split + 1, power - 1, power, size - 2, size - 1, random.below(size), random.below(size)];
+    all.retain(|place| *place < size);
+    all.sort();
+    all.dedup();
+    all
+}
+
+/// Sizes next to 2^32, which a word of 32 bits does not hold, to the middle and to the end of the numbers.
+pub const LARGE: [u64; 17] = [
     (1 << 31) - 1,
     1 << 31,
     (1 << 31) + 1,
     3 << 30,
-    MOST_LEAVES - 2,
-    MOST_LEAVES - 1,
-    MOST_LEAVES,
-    MOST_LEAVES + 1,
-    MOST_LEAVES + 2,
-    2 * MOST_LEAVES,
+    (1 << 32) - 2,
+    (1 << 32) - 1,
+    1 << 32,
+    (1 << 32) + 1,
+    (1 << 32) + 2,
+    1 << 33,
     (1 << 63) - 1,
     1 << 63,
     (1 << 63) + 1,
-    u64::MAX - 1,
-    u64::MAX,
+    3 << 62,
+    LARGEST_SIZE - 2,
+    LARGEST_SIZE - 1,
+    LARGEST_SIZE,
 ];
 
 /// Leaves, the root and all proofs of a list.
@@ -209,17 +266,22 @@ impl List {
 
 // Random proofs.
 
-/// A size above 0, of any count of bits, mostly within the limit.
+/// A size above 0, of any count of bits.
 fn random_size(random: &mut Random) -> u64 {
     match random.below(10) {
         0..=3 => random.between(1, 70),
         4..=7 => {
-            let bits = random.between(1, 32);
-            random.between(1, 1 << bits)
+            let largest = LARGEST_SIZE >> random.below(64);
+            random.between(1, largest)
         }
         8 => *random.pick(&LARGE),
-        _ => (random.draw() >> random.below(64)).max(1),
+        _ => near_power(random).max(1),
     }
+}
+
+/// Next to a power of two, 2^64 included; it may be 0.
+pub fn near_power(random: &mut Random) -> u64 {
+    ((1u128 << random.below(65)) as u64).wrapping_add(random.below(5)).wrapping_sub(2)
 }
 
 /// None, one or two faults.
@@ -251,4 +313,43 @@ pub fn random_consistency(random: &mut Random) -> Proof {
         _ => 1 + random.below(second),
     };
     random_faults(made_consistency(first, second, random), random)
+}
+
+#[cfg(test)]
+mod tests {
+    use super::*;
+
+    #[test]
+    fn numbers_next_to_powers() {
+        let near = next_to_powers(2);
+        assert_eq!(near[..12], [0, 1, 2, 3, 4, 5, 6, 7, 8, 9, 10, 14]);
+        assert_eq!(near[near.len() - 4..], [(1 << 63) + 1, (1 << 63) + 2, u64::MAX - 1, u64::MAX]);
+        assert_eq!(next_to_powers(0).len(), 64);
+        let random = &mut Random::new(64);
+        let drawn: Vec<u64> = (0..20_000).map(|_| near_power(random)).collect();
+        assert!(near.iter().all(|number| drawn.contains(number)));
+        assert!(drawn.iter().all(|number| near.contains(number)));
+    }
+
+    /// Next to every power of two, at all kinds of places.
+    #[test]
+    fn judged_proofs_have_their_numbers() {
+        let random = &mut Random::new(7);
+        let mut longest = [0; 2];
+        for size in next_to_powers(1) {
+            let places = if size > 1 { some_places(size, random) } else { (0..size).collect() };
+            for place in places {
+                let made = [made_inclusion(place, size, random), made_consistency(place + 1, size, random)];
+                let plain = [plain_inclusion(place, size, 5), plain_consistency(place + 1, size, 5)];
+                for proof in made.into_iter().chain(plain) {
+                    for (number, one) in judged(&proof) {
+                        assert_eq!(one.number(), number, "{:?} of {:?}, {} bytes", one.numbers, proof.numbers, one.path.len());
+                    }
+                    let count = proof.path.len() / 32;
+                    longest[proof.is_inclusion as usize] = count.max(longest[proof.is_inclusion as usize]);
+                }
+            }
+        }
+        assert_eq!(longest, [65, 64]);
+    }
 }

@@ -23,7 +23,10 @@ impl Random {
 
     /// A number from `low` to `high`, both included.
     pub fn between(&mut self, low: u64, high: u64) -> u64 {
-        low + self.below(high - low + 1)
+        match (high - low).checked_add(1) {
+            Some(count) => low + self.below(count),
+            None => self.draw(),
+        }
     }
 
     /// True in one of `count` cases.
@@ -61,5 +64,21 @@ mod tests {
         assert_eq!(random.draw(), 6457827717110365317);
         assert_eq!(random.draw(), 3203168211198807973);
         assert_eq!(random.draw(), 9817491932198370423);
+    }
+
+    /// Also where there are as many numbers as a word has.
+    #[test]
+    fn between_has_both_ends() {
+        let mut random = Random::new(3);
+        for (low, high) in [(0, u64::MAX), (1, u64::MAX), (0, u64::MAX - 1)] {
+            assert!((0..64).any(|_| random.between(low, high) > 1 << 63));
+        }
+        for (low, high) in [(u64::MAX - 1, u64::MAX), (0, 1)] {
+            let drawn: Vec<u64> = (0..64).map(|_| random.between(low, high)).collect();
+            assert!(drawn.contains(&low) && drawn.contains(&high) && drawn.iter().all(|number| (low..=high).contains(number)));
+        }
+        for number in [0, u64::MAX] {
+            assert_eq!(random.between(number, number), number);
+        }
     }
 }

@@ -211,6 +211,34 @@ mod tests {
         assert_eq!(requests, committed());
     }
 
+    /// A line that is too long would be answered with `?` by both programs, and show nothing.
+    #[test]
+    fn large_runs_keep_to_the_longest_line() {
+        struct Lines(usize, usize);
+        impl Write for Lines {
+            fn write(&mut self, written: &[u8]) -> std::io::Result<usize> {
+                for part in written.split_inclusive(|byte| *byte == b'\n') {
+                    self.0 += part.len();
+                    if part.ends_with(b"\n") {
+                        self.1 = self.1.max(self.0 - 1);
+                        self.0 = 0;
+                    }
+                }
+                Ok(written.len())
+            }
+
+            fn flush(&mut self) -> std::io::Result<()> {
+                Ok(())
+            }
+        }
+        for layer in LAYERS {
+            let mut lines = Lines(0, 0);
+            (layer.full)(&mut Requests::new(&mut lines));
+            println!("{}: {} bytes", layer.name, lines.1);
+            assert!(lines.1 > 1_000 && lines.1 <= LONGEST_LINE, "{}: {} bytes", layer.name, lines.1);
+        }
+    }
+
     #[test]
     fn lines_too_long_or_cut_off_are_no_request() {
         let longest = [b"digest_into x".to_vec(), vec![b'0'; LONGEST_LINE - 15], b" x\n".to_vec()].concat();

@@ -3,8 +3,9 @@
 
 use crate::auditor::{self, Call, Offer, PageCall, Record};
 use crate::carry::{consistency_places, inclusion_places, parts, Leaves};
+use crate::proofs::near_power;
 use crate::random::Random;
-use crate::tree::{leaf_hash, node_hash, Hash, HashFunction};
+use crate::tree::{leaf_hash, node_hash, Hash, HashFunction, LARGEST_SIZE};
 use crate::yields;
 use std::collections::BTreeMap;
 
@@ -22,13 +23,14 @@ pub struct Log {
 impl Log {
     /// Up to `most` leaves; up to six sizes and four pages matter.
     pub fn random(h: HashFunction, most: u64, random: &mut Random) -> Log {
-        let mut sizes: Vec<u64> = (0..random.between(1, 6)).map(|_| random.between(1, most)).collect();
+        let mut sizes: Vec<u64> = (0..random.between(1, 6)).map(|_| some_size(most, random)).collect();
         sizes.sort();
         sizes.dedup();
         let mut pages = BTreeMap::new();
         for _ in 0..random.between(1, 4) {
             let size = *random.pick(&sizes);
-            pages.insert(random.below(size), some_page(random));
+            let place = if random.one_in(4) { size - 1 } else { random.below(size) };
+            pages.insert(place, some_page(random));
         }
         // Places at the ends.
         pages.insert(*random.pick(&[0, sizes[0] - 1]), some_page(random));
@@ -63,6 +65,15 @@ impl Log {
 
     pub fn consistency_path(&self, first: u64, second: u64) -> Vec<u8> {
         self.nodes(consistency_places(first, 0..second, true))
+    }
+}
+
+/// Up to `most`: any, one next to a power of two, or the last.
+fn some_size(most: u64, random: &mut Random) -> u64 {
+    match random.below(8) {
+        0 | 1 => near_power(random).clamp(1, most),
+        2 => most,
+        _ => random.between(1, most),
     }
 }
 
@@ -174,7 +185,8 @@ impl Server {
             0 => offer.log_id = random.bytes(3),
             1 => spoil(&mut offer.log_id, random),
             2 => {
-                offer.size = *random.pick(&[0, 1, held.size.saturating_sub(1), 1 << 32, (1 << 32) + 1, u64::MAX]);
+                offer.size =
+                    *random.pick(&[0, 1, held.size.saturating_sub(1), 1 << 32, (1 << 32) + 1, 1 << 63, LARGEST_SIZE - 1, LARGEST_SIZE]);
             }
             3 => offer.timestamp = held.timestamp.saturating_sub(1 + random.below(3)),
             4 => (offer.size, offer.root) = (held.size, random.hash().to_vec()),
@@ -188,7 +200,7 @@ impl Server {
             9 | 10 => spoil(&mut offer.path, random),
             _ => {
                 offer.timestamp = offer.timestamp.max(held.timestamp);
-                offer.size = (held.size + random.below(6)).min(1 << 32);
+                offer.size = held.size.saturating_add(random.below(6));
                 for _ in 0..tries {
                     let count = if offer.size == held.size { 0 } else { yields::consistency_count(held.size, offer.size) };
                     offer.path = self.any_nodes(count, random);
@@ -262,7 +274,7 @@ mod tests {
     fn logs_are_consistent() {
         let random = &mut Random::new(5);
         for turn in 0..200 {
-            let log = Log::random(if turn % 2 == 0 { digest } else { weak }, 1 << random.below(33), random);
+            let log = Log::random(if turn % 2 == 0 { digest } else { weak }, LARGEST_SIZE >> random.below(64), random);
             for (at, second) in log.sizes.iter().enumerate() {
                 let root = log.root(*second);
                 for (place, page) in log.pages.range(..second) {

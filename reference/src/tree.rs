@@ -5,7 +5,9 @@ pub type Hash = [u8; 32];
 /// The hash is a parameter, so that a weak one can be put in.
 pub type HashFunction = fn(&[u8]) -> Hash;
 
-/// A tree has at most so many leaves.
+/// The largest size of a tree.
+pub const LARGEST_SIZE: u64 = u64::MAX;
+/// Joined leaf hashes are at most so many, whatever the size of a tree.
 pub const MOST_LEAVES: u64 = 1 << 32;
 
 pub fn leaf_hash(h: HashFunction, input: &[u8]) -> Hash {

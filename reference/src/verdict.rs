@@ -2,7 +2,7 @@
 //! number comes from the recursive definition; the RFC's bottom-up algorithm
 //! must agree on what is accepted.
 
-use crate::tree::{hashes, Hash, HashFunction, MOST_LEAVES};
+use crate::tree::{hashes, Hash, HashFunction};
 use crate::{verify, yields};
 
 pub struct Inclusion<'a> {
@@ -17,7 +17,8 @@ pub fn inclusion(h: HashFunction, proof: &Inclusion) -> u64 {
     let (Some(leaf), Some(root)) = (hash(proof.leaf), hash(proof.root)) else { return 5 };
     let Some(path) = hashes(proof.path) else { return 10 };
     let (place, size) = (proof.place, proof.size);
-    if size == 0 || size > MOST_LEAVES || place >= size {
+    // No size is above the largest; a place below a size is one of at least 1.
+    if place >= size {
         return 6;
     }
     let number = match yields::inclusion(h, &leaf, place, size, &path) {
@@ -43,7 +44,7 @@ pub fn consistency(h: HashFunction, proof: &Consistency) -> u64 {
     let (Some(first_root), Some(second_root)) = (hash(proof.first_root), hash(proof.second_root)) else { return 5 };
     let Some(path) = hashes(proof.path) else { return 10 };
     let (first, second) = (proof.first, proof.second);
-    if first == 0 || second > MOST_LEAVES || first > second {
+    if first == 0 || first > second {
         return 6;
     }
     if first == second {
@@ -75,8 +76,8 @@ fn hash(bytes: &[u8]) -> Option<Hash> {
 mod tests {
     use super::*;
     use crate::random::Random;
-    use crate::sha256::digest;
-    use crate::tree;
+    use crate::sha256::{digest, node};
+    use crate::tree::{self, LARGEST_SIZE};
 
     fn judge_inclusion(leaf: &[u8], place: u64, size: u64, root: &[u8], path: &[u8]) -> u64 {
         inclusion(digest, &Inclusion { leaf, place, size, root, path })
@@ -100,14 +101,35 @@ mod tests {
         assert_eq!(judge_consistency(7, 3, &a, &a, &[]), 6);
         assert_eq!(judge_consistency(0, 0, &a, &a, &[]), 6);
 
-        let path = [3; 32 * 32];
-        let nodes = hashes(&path).unwrap();
-        let root = yields::inclusion(digest, &a, 5, 1 << 32, &nodes).unwrap();
-        assert_eq!(judge_inclusion(&a, 5, 1 << 32, &root, &path), 0);
-        assert_eq!(judge_inclusion(&a, 5, (1 << 32) + 1, &root, &path), 6);
-        assert_eq!(yields::consistency_count((1 << 31) + 1, 1 << 32), 33);
-        assert_eq!(judge_consistency(1 << 32, 1 << 32, &a, &a, &[]), 0);
-        assert_eq!(judge_consistency((1 << 32) + 1, (1 << 32) + 1, &a, &a, &[]), 6);
+        // Each of these sizes may pass; the first was the largest once.
+        for size in [1 << 32, (1 << 32) + 1, 1 << 63, LARGEST_SIZE - 1, LARGEST_SIZE] {
+            let path = vec![3; 32 * yields::inclusion_count(5, size)];
+            let root = yields::inclusion(digest, &a, 5, size, &hashes(&path).unwrap()).unwrap();
+            assert_eq!(judge_inclusion(&a, 5, size, &root, &path), 0);
+            assert_eq!(judge_consistency(size, size, &a, &a, &[]), 0);
+        }
+    }
+
+    /// Sizes past 2^32, by hand.
+    #[test]
+    fn large_sizes() {
+        const PAST: u64 = (1 << 32) + 1;
+        const LAST: u64 = LARGEST_SIZE;
+        let (a, b) = ([1; 32], [2; 32]);
+        assert_eq!(judge_inclusion(&a, 1 << 32, PAST, &node(&b, &a), &b), 0);
+        assert_eq!(judge_inclusion(&a, 0, PAST, &node(&b, &a), &b), 7);
+        assert_eq!(judge_consistency(1 << 32, PAST, &a, &node(&a, &b), &b), 0);
+        let root = (0..64).fold(a, |root, _| node(&root, &b));
+        assert_eq!([64, 63, 65].map(|count| judge_inclusion(&a, 0, LAST, &root, &[2; 32].repeat(count))), [0, 7, 7]);
+        assert_eq!(judge_inclusion(&a, LAST, LAST, &root, &[2; 32].repeat(64)), 6);
+        // The last place: all 63 nodes are to its left.
+        let root = (0..63).fold(a, |root, _| node(&b, &root));
+        assert_eq!([62, 63, 64].map(|count| judge_inclusion(&a, LAST - 1, LAST, &root, &[2; 32].repeat(count))), [7, 0, 7]);
+        assert_eq!(judge_inclusion(&a, LAST - 1, LAST, &a, &[2; 32].repeat(63)), 8);
+        assert_eq!(judge_consistency(LAST, LAST, &a, &a, &[]), 0);
+        assert_eq!(judge_consistency(LAST, LAST, &a, &a, &b), 7);
+        assert_eq!(judge_consistency(LAST, LAST - 1, &a, &a, &b), 6);
+        assert_eq!(judge_inclusion(&a, 0, 0, &a, &[]), 6);
     }
 
     #[test]
@@ -180,7 +202,7 @@ mod tests {
         }
     }
 
-    /// The counts are those of the built paths; at 2^32 at most 32 and 33.
+    /// The counts are those of the built paths; to 2^32 they are at most 32 and 33, to 2^64 - 1 at most 64 and 65.
     #[test]
     fn counts() {
         let leaves = [[0; 32]; 70];
@@ -193,10 +215,15 @@ mod tests {
             }
         }
         let random = &mut Random::new(33);
-        for _ in 0..20_000 {
-            let n = 1 + random.below(MOST_LEAVES);
-            assert!(yields::inclusion_count(random.below(n), n) <= 32);
-            assert!(yields::consistency_count(1 + random.below(n), n) <= 33);
+        for (largest, levels) in [(1 << 32, 32), (LARGEST_SIZE, 64)] {
+            let mut most = (0, 0);
+            for _ in 0..20_000 {
+                let n = random.between(1, largest);
+                let (inclusion, consistency) =
+                    (yields::inclusion_count(random.below(n), n), yields::consistency_count(1 + random.below(n), n));
+                most = (most.0.max(inclusion), most.1.max(consistency));
+            }
+            assert_eq!(most, (levels, levels + 1));
         }
     }
 }

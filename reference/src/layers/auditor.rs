@@ -3,12 +3,14 @@
 //! the same requests over a weak hash.
 
 use crate::auditor::{self, disputes, join_head, Call, Dispute, Offer, PageCall, Settled, Stored, LONGEST_ID};
+use crate::proofs::{judged, next_to_powers, plain_consistency, some_places, Proof};
 use crate::random::Random;
 use crate::requests::{lines_that_are_no_request, Asked, Entry, Layer, Requests};
 use crate::servers::{spoil, Kind, Log, Server, KINDS};
-use crate::sha256::digest;
-use crate::tree::{HashFunction, MOST_LEAVES};
+use crate::sha256::{digest, leaf};
+use crate::tree::{HashFunction, LARGEST_SIZE};
 use crate::words::{bytes, number, repeated, short, Word};
+use crate::yields;
 
 pub const LAYER: Layer = Layer {
     name: "auditor",
@@ -347,7 +349,6 @@ fn offer_faults() -> Faults<Given<Offer>> {
         (11, |g| g.call.log_id = b"a lag".to_vec()),
         (11, |g| g.call.log_id.push(0)),
         (6, |g| g.call.size = 0),
-        (6, |g| g.call.size = MOST_LEAVES + 1),
         (6, |g| g.call.size = g.record.size - 1),
         (12, |g| g.call.timestamp = g.record.timestamp - 1),
         (13, |g| {
@@ -374,7 +375,6 @@ fn offer_faults_of_the_empty_record() -> Faults<Given<Offer>> {
         (10, |g| g.call.path = vec![0; 33]),
         (10, |g| g.call.path = vec![0; 31]),
         (6, |g| g.call.size = 0),
-        (6, |g| g.call.size = MOST_LEAVES + 1),
         (7, |g| g.call.path.extend([0; 32])),
     ]
 }
@@ -385,7 +385,7 @@ fn page_faults() -> Faults<Given<PageCall>> {
         (10, |g| g.call.path.push(0)),
         (6, |g| g.call.place = g.record.size),
         (6, |g| g.record.size = 0),
-        (6, |g| g.record.size = MOST_LEAVES + 1),
+        (6, |g| g.call.place = LARGEST_SIZE),
         (7, |g| g.call.path.extend([0; 32])),
         (7, |g| g.call.path.truncate(32)),
         (8, |g| g.call.path[0] ^= 1),
@@ -445,7 +445,7 @@ fn first_proof_faults() -> Faults<Open> {
         (10, |d| d.one.first.path.push(0)),
         (6, |d| d.one.first.place = d.one.size),
         (6, |d| d.one.size = 0),
-        (6, |d| d.one.size = MOST_LEAVES + 1),
+        (6, |d| d.one.first.place = LARGEST_SIZE),
         (7, |d| d.one.first.path.extend([0; 32])),
         (8, |d| d.one.first.path[0] ^= 1),
         (8, |d| d.one.first.page.push(0)),
@@ -478,7 +478,7 @@ fn faults_with_heads() -> Faults<Open> {
         (2, |d| d.cut = Some((0, 42 + 31))),
         (2, |d| d.cut = Some((0, 1))),
         (6, |d| d.heads[0].0 = d.one.size - 1),
-        (6, |d| d.heads[0].0 = MOST_LEAVES + 1),
+        (6, |d| d.heads[0].0 = 0),
         (7, |d| d.heads[0].2.truncate(32)),
         (7, |d| d.heads[0].2.extend([0; 32])),
         (8, |d| d.heads[0].1[0] ^= 1),
@@ -504,7 +504,8 @@ fn faults_with_heads() -> Faults<Open> {
 fn rules(every_pair: bool) -> Vec<(u64, Asked)> {
     let log = seven();
     let mut all = Vec::new();
-    let offer = |timestamp: u64, size: u64, path: Vec<u8>| Offer { log_id: ID.to_vec(), timestamp, size, root: log.root(size).to_vec(), path };
+    let offer =
+        |timestamp: u64, size: u64, path: Vec<u8>| Offer { log_id: ID.to_vec(), timestamp, size, root: log.root(size).to_vec(), path };
     let offers = |all: &mut Vec<(u64, Asked)>, record: &Stored, call: Offer, faults: Faults<Given<Offer>>| {
         let good = Given { record: record.clone(), call };
         all.extend(with_faults(&good, &faults, every_pair).iter().map(|(refusal, one)| (*refusal, ask_offer(&one.record, &one.call))));
@@ -537,19 +538,20 @@ fn rules(every_pair: bool) -> Vec<(u64, Asked)> {
     }
     let hash = [6; 32];
     let any = |size: u64, path: Vec<u8>| Offer { log_id: ID.to_vec(), timestamp: 50, size, root: hash.to_vec(), path };
-    for (size, refusal) in [(0, 6), (1, 0), (2, 0), (MOST_LEAVES - 1, 0), (MOST_LEAVES, 0), (MOST_LEAVES + 1, 6), (1 << 63, 6), (u64::MAX, 6)] {
-        all.push((refusal, ask_offer(&Stored::EMPTY, &any(size, vec![]))));
-        if refusal == 0 {
-            // The same head again, with a later and an earlier timestamp, with a node, and with another root.
-            let record = stored(ID, 50, size, hash);
-            all.push((0, ask_offer(&record, &any(size, vec![]))));
-            all.push((0, ask_offer(&record, &Offer { timestamp: u64::MAX, ..any(size, vec![]) })));
-            all.push((12, ask_offer(&record, &Offer { timestamp: 49, ..any(size, vec![]) })));
-            all.push((7, ask_offer(&record, &any(size, vec![0; 32]))));
-            all.push((13, ask_offer(&record, &Offer { root: vec![7; 32], ..any(size, vec![]) })));
-            all.push((if size == MOST_LEAVES { 6 } else { 7 }, ask_offer(&record, &any(size + 1, vec![]))));
-            all.push((6, ask_offer(&record, &any(size - 1, vec![]))));
+    all.push((6, ask_offer(&Stored::EMPTY, &any(0, vec![]))));
+    for size in [1, 2, 1 << 32, (1 << 32) + 1, 1 << 63, LARGEST_SIZE - 1, LARGEST_SIZE] {
+        all.push((0, ask_offer(&Stored::EMPTY, &any(size, vec![]))));
+        // The same head again, with a later and an earlier timestamp, with a node, and with another root.
+        let record = stored(ID, 50, size, hash);
+        all.push((0, ask_offer(&record, &any(size, vec![]))));
+        all.push((0, ask_offer(&record, &Offer { timestamp: u64::MAX, ..any(size, vec![]) })));
+        all.push((12, ask_offer(&record, &Offer { timestamp: 49, ..any(size, vec![]) })));
+        all.push((7, ask_offer(&record, &any(size, vec![0; 32]))));
+        all.push((13, ask_offer(&record, &Offer { root: vec![7; 32], ..any(size, vec![]) })));
+        if size < LARGEST_SIZE {
+            all.push((7, ask_offer(&record, &any(size + 1, vec![]))));
         }
+        all.push((6, ask_offer(&record, &any(size - 1, vec![]))));
     }
 
     // Records that no list of calls returns.
@@ -567,18 +569,16 @@ fn rules(every_pair: bool) -> Vec<(u64, Asked)> {
     all.push((0, ask_offer(&garbage, &offer(50, 6, log.consistency_path(3, 6)))));
     all.push((12, ask_offer(&garbage, &offer(49, 6, log.consistency_path(3, 6)))));
     all.push((11, ask_offer(&garbage, &Offer { log_id: garbage.id[..ID.len() + 1].to_vec(), ..offer(50, 6, vec![]) })));
-    for size in [0, MOST_LEAVES + 1, 1 << 63, u64::MAX] {
-        let record = Stored { size, ..three.clone() };
-        for offered in [0, 1, 3, MOST_LEAVES, MOST_LEAVES + 1, size] {
-            for path in [vec![], vec![0; 32]] {
-                all.push((6, ask_offer(&record, &any(offered, path))));
-            }
+    // A head of no leaves takes none behind it, whatever their size.
+    let nothing = Stored { size: 0, ..three.clone() };
+    for offered in [0, 1, 3, (1 << 32) + 1, LARGEST_SIZE] {
+        for path in [vec![], vec![0; 32]] {
+            all.push((6, ask_offer(&nothing, &any(offered, path))));
         }
-        let earlier = Offer { timestamp: 49, ..any(3, vec![]) };
-        all.push((if size == 0 { 12 } else { 6 }, ask_offer(&record, &earlier)));
-        for place in [0, size, u64::MAX] {
-            all.push((6, ask_page(&record, &PageCall { place, page: vec![], path: vec![] })));
-        }
+    }
+    all.push((12, ask_offer(&nothing, &Offer { timestamp: 49, ..any(3, vec![]) })));
+    for place in [0, 1, u64::MAX] {
+        all.push((6, ask_page(&nothing, &PageCall { place, page: vec![], path: vec![] })));
     }
 
     // Pages.
@@ -587,15 +587,8 @@ fn rules(every_pair: bool) -> Vec<(u64, Asked)> {
     all.extend(with_faults(&good, &page_faults(), every_pair).iter().map(|(refusal, one)| (*refusal, ask_page(&one.record, &one.call))));
     all.push((14, ask_page(&Stored::EMPTY, &good.call)));
     all.push((14, ask_page(&empty, &PageCall { path: vec![1], ..good.call.clone() })));
-    for (size, place) in [(1, 0), (2, 1), (3, 2), (MOST_LEAVES, 0), (MOST_LEAVES, MOST_LEAVES - 1), (MOST_LEAVES - 1, MOST_LEAVES - 2)] {
-        let mut log = seven();
-        (log.sizes, log.pages) = (vec![size], [(place, vec![])].into());
-        let record = stored(ID, 50, size, log.root(size));
-        let call = PageCall { place, page: vec![], path: log.path(place, size) };
-        all.push((0, ask_page(&record, &call)));
-        all.push((8, ask_page(&record, &PageCall { page: vec![0], ..call.clone() })));
-        all.push((6, ask_page(&record, &PageCall { place: size, ..call.clone() })));
-        all.push((7, ask_page(&record, &PageCall { path: [&call.path[..], &[0; 32]].concat(), ..call })));
+    for (size, place) in [(1, 0), (2, 1), (3, 2)] {
+        all.extend(plain_pages(place, size));
     }
 
     // Journals. A head of two nodes has 106 bytes.
@@ -649,19 +642,105 @@ fn rules(every_pair: bool) -> Vec<(u64, Asked)> {
     all.push((2, cut.asked()));
     cut.one.root.clear();
     all.push((5, cut.asked()));
+    all.extend(large(every_pair));
     all
 }
 
-/// The largest sizes: one dispute over heads up to the limit.
-fn large() -> Vec<Asked> {
-    let mut log = seven();
-    (log.sizes, log.pages) =
-        (vec![MOST_LEAVES / 2 + 1, MOST_LEAVES - 1, MOST_LEAVES], [(0, b"page".to_vec()), (MOST_LEAVES / 2, vec![])].into());
-    let sizes = log.sizes.clone();
-    let mut all: Vec<Asked> = [0, MOST_LEAVES / 2].map(|place| Open::new(&log, place, &sizes).asked()).into();
-    let mut past = Open::new(&log, 0, &sizes);
-    past.heads.push((MOST_LEAVES + 1, vec![1; 32], vec![0; 32]));
-    all.push(past.asked());
+/// The cases by hand of request 3, full-size logs, as its readings list them: offers to the empty record.
+fn full_size_cases() -> Vec<(u64, Asked)> {
+    let offer = |size: u64| Offer { log_id: ID.to_vec(), timestamp: 50, size, root: vec![0xa1; 32], path: vec![] };
+    [(0, LARGEST_SIZE), (6, 0)].map(|(refusal, size)| (refusal, ask_offer(&Stored::EMPTY, &offer(size)))).into()
+}
+
+/// An offer of one size to a record of another, by nodes of one byte, and refused ones.
+fn plain_offers(held: u64, offered: u64) -> Vec<(u64, Asked)> {
+    let as_offer = |one: Proof| {
+        let ([held, size], [held_root, root]) = (one.numbers, one.hashes);
+        let record = Stored { size: held, root: held_root[..].try_into().unwrap(), ..stored(ID, 50, 1, [0; 32]) };
+        ask_offer(&record, &Offer { log_id: ID.to_vec(), timestamp: 51, size, root, path: one.path })
+    };
+    judged(&plain_consistency(held, offered, 5)).into_iter().map(|(refusal, one)| (refusal, as_offer(one))).collect()
+}
+
+/// A page asked for at a place of a record's size, by nodes of one byte, and refused ones.
+fn plain_pages(place: u64, size: u64) -> Vec<(u64, Asked)> {
+    let nodes = vec![[5; 32]; yields::inclusion_count(place, size)];
+    let root = yields::inclusion(digest, &leaf(b""), place, size, &nodes).unwrap();
+    let record = stored(ID, 50, size, root);
+    let call = PageCall { place, page: vec![], path: nodes.concat() };
+    let (more, fewer) = ([&call.path[..], &[5; 32]].concat(), call.path[32.min(call.path.len())..].to_vec());
+    let other = Stored { root: [7; 32], ..record.clone() };
+    let mut all = vec![
+        (0, ask_page(&record, &call)),
+        (8, ask_page(&record, &PageCall { page: vec![0], ..call.clone() })),
+        (8, ask_page(&other, &call)),
+        (6, ask_page(&record, &PageCall { place: size, ..call.clone() })),
+        (6, ask_page(&record, &PageCall { place: u64::MAX, ..call.clone() })),
+        (7, ask_page(&record, &PageCall { path: more, ..call.clone() })),
+    ];
+    if !nodes.is_empty() {
+        all.push((7, ask_page(&record, &PageCall { path: fewer, ..call })));
+    }
+    all
+}
+
+/// Held sizes, and those of the heads that follow: to 2^32, past it, and up to the
+/// largest, by up to 65 nodes.
+const OFFERED: [(u64, u64); 8] = [
+    ((1 << 32) - 1, 1 << 32),
+    (1 << 32, (1 << 32) + 1),
+    ((1 << 32) + 1, 1 << 63),
+    (1, LARGEST_SIZE),
+    (3, LARGEST_SIZE),
+    (1 << 63, LARGEST_SIZE - 1),
+    ((1 << 63) + 1, LARGEST_SIZE),
+    (LARGEST_SIZE - 1, LARGEST_SIZE),
+];
+
+/// Places and sizes of pages.
+const ASKED_FOR: [(u64, u64); 7] = [
+    ((1 << 32) - 1, 1 << 32),
+    (1 << 32, (1 << 32) + 1),
+    (5, 1 << 63),
+    (1 << 63, LARGEST_SIZE - 1),
+    (0, LARGEST_SIZE),
+    ((1 << 63) - 1, LARGEST_SIZE),
+    (LARGEST_SIZE - 1, LARGEST_SIZE),
+];
+
+/// A place, the size at its page, and those of the heads after it.
+const DISPUTED: [(u64, [u64; 3]); 4] = [
+    (0, [(1 << 63) + 1, LARGEST_SIZE - 1, LARGEST_SIZE]),
+    (1 << 63, [(1 << 63) + 1, LARGEST_SIZE - 1, LARGEST_SIZE]),
+    (2, [3, (1 << 32) + 1, LARGEST_SIZE]),
+    (1 << 32, [(1 << 32) + 1, 1 << 63, LARGEST_SIZE]),
+];
+
+/// Sizes up to the largest. Their disputes are long, so most faults are left to the
+/// large run, as are sizes next to every power of two.
+fn large(all_wanted: bool) -> Vec<(u64, Asked)> {
+    let mut all = full_size_cases();
+    all.extend(OFFERED.into_iter().flat_map(|(held, offered)| plain_offers(held, offered)));
+    all.extend(ASKED_FOR.into_iter().flat_map(|(place, size)| plain_pages(place, size)));
+    for (place, sizes) in DISPUTED {
+        let mut log = seven();
+        (log.sizes, log.pages) = (sizes.to_vec(), [(place, b"page".to_vec())].into());
+        let good = Open::new(&log, place, &sizes);
+        let faults = if all_wanted { faults_with_heads() } else { vec![] };
+        all.extend(with_single_faults(&good, &faults).iter().map(|(refusal, one)| (*refusal, one.asked())));
+    }
+    if !all_wanted {
+        return all;
+    }
+    let random = &mut Random::new(64);
+    for size in next_to_powers(2).into_iter().filter(|size| *size > 40) {
+        for place in some_places(size, random) {
+            all.extend(plain_pages(place, size));
+            if place + 1 < size {
+                all.extend(plain_offers(place + 1, size));
+            }
+        }
+    }
     all
 }
 
@@ -669,7 +748,6 @@ fn cases(requests: &mut Requests) {
     for (_, (name, words)) in rules(false) {
         requests.ask(name, &words);
     }
-    ask_all(requests, large());
     let random = &mut Random::new(14);
     for kind in KINDS {
         let calls = Server::random(digest, kind, 12, random).calls(12, 0, random);
@@ -714,14 +792,14 @@ fn full(requests: &mut Requests) {
     let random = &mut Random::new(127);
     for turn in 0..150 {
         for kind in KINDS {
-            let most = if turn % 3 == 0 { 1 << random.below(33) } else { random.between(1, 40) };
+            let most = if turn % 5 == 0 { LARGEST_SIZE >> random.below(64) } else { random.between(1, 40) };
             let calls = Server::random(digest, kind, most, random).calls(30, 0, random);
             ask_all(requests, ask_list(digest, &calls, random));
         }
     }
     for length in [65_536, 500_000, 1_000_000] {
         let page = vec![0x61; length];
-        let leaf = crate::sha256::leaf(&page);
+        let leaf = leaf(&page);
         let record = stored(ID, 1, 1, leaf);
         let mut words = asked(&record);
         words.extend([number(0), repeated(length, 0x61), bytes(&[])]);
@@ -738,7 +816,7 @@ fn full(requests: &mut Requests) {
 
 fn random_calls(random: &mut Random) -> Vec<Call> {
     let most = match random.below(4) {
-        0 => 1 << random.below(33),
+        0 => LARGEST_SIZE >> random.below(64),
         _ => random.between(1, 40),
     };
     let kind = *random.pick(&[Kind::Honest, Kind::Forgetful, Kind::Forging, Kind::Forging]);
@@ -772,7 +850,7 @@ fn random_record(words: &mut [Word], random: &mut Random) {
             2 => words[2] = number(*random.pick(&[0, 1, 2, 3, 126, 127, 128, 1 << 63, u64::MAX])),
             3 => words[2] = number(any),
             4 => words[3] = number(any),
-            5 => words[4] = number(*random.pick(&[0, 1, 2, MOST_LEAVES, MOST_LEAVES + 1, u64::MAX])),
+            5 => words[4] = number(*random.pick(&[0, 1, 2, 1 << 32, (1 << 32) + 1, LARGEST_SIZE])),
             6 => words[4] = number(any),
             _ => words[5] = bytes(&random.hash()),
         }

@@ -3,13 +3,13 @@
 //! the unit tests of `carry`, over a weak hash.
 
 use crate::carry::{self, consistency_places, full_subtree, inclusion_places, Carried, Compared, Known};
-use crate::proofs::{List, Proof};
+use crate::proofs::{made_inclusion, near_power, next_to_powers, plain_inclusion, some_places, List, Proof};
 use crate::random::Random;
 use crate::requests::{lines_that_are_no_request, Entry, Layer, Requests};
 use crate::sha256::{digest, node};
-use crate::tree::{Hash, MOST_LEAVES};
+use crate::tree::{split, Hash, LARGEST_SIZE};
 use crate::verdict::Inclusion;
-use crate::words::{bytes, number, repeated, Word};
+use crate::words::{bytes, number, repeated, short, Word};
 use crate::yields;
 
 pub const LAYER: Layer = Layer {
@@ -86,16 +86,26 @@ impl Carry {
         Carry::new(old.inclusion(place), list.consistency(first))
     }
 
-    /// Proofs that agree, for any numbers: the parts that both know are free.
     pub fn made(place: u64, first: u64, second: u64, random: &mut Random) -> Carry {
+        Carry::free(place, first, second, || random.hash())
+    }
+
+    /// Of one byte over and over, which a request writes shorter where no node is
+    /// hashed from others.
+    fn plain(place: u64, first: u64, second: u64, byte: u8) -> Carry {
+        Carry::free(place, first, second, || [byte; 32])
+    }
+
+    /// Proofs that agree, for any numbers: the parts that both know are free.
+    fn free(place: u64, first: u64, second: u64, mut free: impl FnMut() -> Hash) -> Carry {
         let subtree = if first == second { 0..first } else { full_subtree(place, first) };
-        let mut known = Known::new(digest, vec![], &[]).with(place..place + 1, &random.hash());
+        let mut known = Known::new(digest, vec![], &[]).with(place..place + 1, &free());
         let siblings = inclusion_places(place, 0..first).into_iter();
         for below in siblings.filter(|part| part.start >= subtree.start && part.end <= subtree.end) {
-            known = known.with(below, &random.hash());
+            known = known.with(below, &free());
         }
         for part in consistency_places(first, 0..second, true).into_iter().filter(|part| *part != subtree) {
-            known = known.with(part, &random.hash());
+            known = known.with(part, &free());
         }
         let nodes = |places: Vec<carry::Leaves>| places.iter().map(|part| known.hash(part)).collect::<Vec<Hash>>();
         let (first_root, second_root) = (known.hash(&(0..first)), known.hash(&(0..second)));
@@ -110,14 +120,14 @@ impl Carry {
     /// The first size and root go out once.
     fn words(&self, byte: u8) -> Vec<Word> {
         vec![
-            bytes(&self.old.hashes[0]),
+            short(&self.old.hashes[0]),
             number(self.old.numbers[0]),
             number(self.old.numbers[1]),
-            bytes(&self.old.hashes[1]),
-            bytes(&self.old.path),
+            short(&self.old.hashes[1]),
+            short(&self.old.path),
             number(self.step.numbers[1]),
-            bytes(&self.step.hashes[1]),
-            bytes(&self.step.path),
+            short(&self.step.hashes[1]),
+            short(&self.step.path),
             repeated(self.lent, byte),
             repeated(self.pair, !byte),
         ]
@@ -131,6 +141,41 @@ impl Carry {
         let mut changed = self.clone();
         change(&mut changed);
         changed
+    }
+
+    /// A path that is carried, and with it what is not: each with its number. Where
+    /// another number than 9 is given, there is no room either.
+    fn judged(&self) -> Vec<(u64, Carry)> {
+        let without_room = |change: &dyn Fn(&mut Carry)| {
+            self.with(|c| {
+                (c.lent, c.pair) = (0, 0);
+                change(c);
+            })
+        };
+        // The last node again, or else a copy of the leaf hash.
+        let more = |path: &mut Vec<u8>| path.extend(path.last_chunk::<32>().copied().unwrap_or(self.old.hashes[0][..].try_into().unwrap()));
+        let fewer = |path: &mut Vec<u8>| path.truncate(path.len() - 32);
+        let mut all = vec![
+            (0, self.clone()),
+            (9, self.with(|c| c.pair = 129)),
+            (6, without_room(&|c| c.old.numbers[0] = c.old.numbers[1])),
+            (6, without_room(&|c| c.old.numbers[0] = u64::MAX)),
+            (6, without_room(&|c| c.step.numbers[1] = c.old.numbers[1] - 1)),
+            (7, without_room(&|c| more(&mut c.old.path))),
+            (7, without_room(&|c| more(&mut c.step.path))),
+            (8, without_room(&|c| c.old.hashes[0][0] ^= 1)),
+            (8, without_room(&|c| c.step.hashes[1][31] ^= 128)),
+        ];
+        if self.lent > 0 {
+            all.push((9, self.with(|c| c.lent -= 1)));
+        }
+        if !self.old.path.is_empty() {
+            all.push((7, without_room(&|c| fewer(&mut c.old.path))));
+        }
+        if !self.step.path.is_empty() {
+            all.push((7, without_room(&|c| fewer(&mut c.step.path))));
+        }
+        all
     }
 
     /// One fault, or two that show the order.
@@ -161,9 +206,9 @@ impl Carry {
             self.with(|c| c.old.hashes[0].truncate(31)),
             self.with(|c| c.old.hashes[1].push(1)),
             self.with(|c| c.step.hashes[1].clear()),
-            self.with(|c| c.old.numbers[0] += 1),
-            self.with(|c| c.old.numbers[1] += 1),
-            self.with(|c| c.step.numbers[1] += 1),
+            self.with(|c| c.old.numbers[0] = c.old.numbers[0].wrapping_add(1)),
+            self.with(|c| c.old.numbers[1] = c.old.numbers[1].wrapping_add(1)),
+            self.with(|c| c.step.numbers[1] = c.step.numbers[1].wrapping_add(1)),
             self.with(|c| c.step.numbers[1] = c.step.numbers[1].wrapping_sub(1)),
             // The inclusion's number first, 9 last.
             self.with(|c| {
@@ -184,11 +229,11 @@ fn compare_words(one: &Proof, two: &Proof, pair: usize) -> Vec<Word> {
     vec![
         number(one.numbers[0]),
         number(one.numbers[1]),
-        bytes(&one.hashes[1]),
-        bytes(&one.hashes[0]),
-        bytes(&one.path),
-        bytes(&two.hashes[0]),
-        bytes(&two.path),
+        short(&one.hashes[1]),
+        short(&one.hashes[0]),
+        short(&one.path),
+        short(&two.hashes[0]),
+        short(&two.path),
         repeated(pair, 0x5a),
     ]
 }
@@ -205,6 +250,38 @@ fn ask_compared(requests: &mut Requests, proof: &Proof, random: &mut Random) {
     requests.ask("compare", &compare_words(other, proof, 130));
     requests.ask("compare", &compare_words(other, random.pick(&others), 0));
 }
+
+/// Place, first and second size: to 2^32 and past it, then up to paths of 64 nodes,
+/// by consistency paths of up to 65.
+const LARGE: [(u64, u64, u64); 8] = [
+    ((1 << 31) + 5, (1 << 32) - 1, 1 << 32),
+    (7, 1 << 32, (1 << 32) + 1),
+    (0, LARGEST_SIZE - 1, LARGEST_SIZE),
+    (LARGEST_SIZE - 2, LARGEST_SIZE - 1, LARGEST_SIZE),
+    (5, 1 << 63, LARGEST_SIZE),
+    (1 << 63, (1 << 63) + 1, LARGEST_SIZE),
+    (7, LARGEST_SIZE, LARGEST_SIZE),
+    (2, 3, LARGEST_SIZE),
+];
+
+/// Others of which no node is hashed from others, so that all can be of one byte.
+const PLAIN: [(u64, u64, u64); 12] = [
+    (0, 1, 1 << 32),
+    ((1 << 32) - 1, 1 << 32, (1 << 32) + 1),
+    (1 << 32, (1 << 32) + 1, 1 << 63),
+    (1 << 62, 1 << 63, (1 << 63) + 1),
+    ((1 << 63) - 2, (1 << 63) - 1, LARGEST_SIZE - 1),
+    (0, 1, LARGEST_SIZE),
+    (2, 3, LARGEST_SIZE),
+    ((1 << 63) - 1, 1 << 63, LARGEST_SIZE),
+    (1 << 63, (1 << 63) + 1, LARGEST_SIZE),
+    (LARGEST_SIZE - 3, LARGEST_SIZE - 2, LARGEST_SIZE),
+    (0, LARGEST_SIZE, LARGEST_SIZE),
+    (LARGEST_SIZE - 1, LARGEST_SIZE, LARGEST_SIZE),
+];
+
+/// Sizes at which proofs are compared.
+const COMPARED: [u64; 4] = [(1 << 32) + 1, 1 << 63, LARGEST_SIZE - 1, LARGEST_SIZE];
 
 fn cases(requests: &mut Requests) {
     let random = &mut Random::new(130);
@@ -238,18 +315,19 @@ fn cases(requests: &mut Requests) {
             ask_compared(requests, &list.inclusion(place), random);
         }
     }
-    for (place, first, second) in [
-        (0, MOST_LEAVES - 1, MOST_LEAVES),
-        (MOST_LEAVES - 2, MOST_LEAVES - 1, MOST_LEAVES),
-        (5, MOST_LEAVES / 2, MOST_LEAVES),
-        (MOST_LEAVES / 2, MOST_LEAVES / 2 + 1, MOST_LEAVES),
-        (7, MOST_LEAVES, MOST_LEAVES),
-        (7, MOST_LEAVES, MOST_LEAVES + 1),
-        (0, 1, MOST_LEAVES),
-        (2, 3, MOST_LEAVES - 1),
-    ] {
+    for (place, first, second) in LARGE {
         Carry::made(place, first, second, random).ask(requests);
     }
+    for (place, first, second) in PLAIN {
+        Carry::plain(place, first, second, 7).judged().iter().for_each(|(_, one)| one.ask(requests));
+    }
+    for (at, size) in COMPARED.into_iter().enumerate() {
+        for place in [0, split(size), size - 1] {
+            ask_compared(requests, &plain_inclusion(place, size, at as u8), random);
+        }
+    }
+    let proof = made_inclusion(LARGEST_SIZE / 3, LARGEST_SIZE, random);
+    requests.ask("compare", &compare_words(&proof, &proof, 130));
 
     lines_that_are_no_request(requests, "carry");
     for line in [
@@ -294,13 +372,43 @@ fn full(requests: &mut Requests) {
             ask_compared(requests, &list.inclusion(place), random);
         }
     }
+    full_large(requests, random);
+}
+
+/// Second sizes next to every power of two up to the largest: from first sizes and
+/// for places at the ends, next to powers of two and anywhere.
+fn full_large(requests: &mut Requests, random: &mut Random) {
+    for second in next_to_powers(2).into_iter().filter(|second| *second > 24) {
+        let middle = split(second);
+        for first in [1, middle, middle + 1, second - 1, second, random.between(1, second), 1 << random.below(64)] {
+            let first = first.min(second);
+            for place in [0, first - 1, random.below(first)] {
+                let one = Carry::made(place, first, second, random);
+                one.ask(requests);
+                let all = one.damaged(random);
+                random.pick(&all).ask(requests);
+            }
+        }
+        let place = random.below(second);
+        let first = random.between(place + 1, second);
+        Carry::made(place, first, second, random).judged().iter().for_each(|(_, one)| one.ask(requests));
+        for place in some_places(second, random) {
+            ask_compared(requests, &plain_inclusion(place, second, place as u8), random);
+        }
+        let proof = made_inclusion(place, second, random);
+        requests.ask("compare", &compare_words(&proof, &proof, 130));
+    }
 }
 
 // Random requests.
 
+/// Half of the sizes small, the others of any count of bits or next to a power of two.
 fn random_numbers(random: &mut Random) -> (u64, u64, u64) {
-    let bits = random.between(1, 32);
-    let second = random.between(1, 1 << bits);
+    let second = match random.below(6) {
+        0 => near_power(random).max(1),
+        1 | 2 => (random.draw() >> random.below(64)).max(1),
+        _ => random.between(1, 40),
+    };
     let first = match random.below(5) {
         0 => second,
         1 => 1 << random.below(second.ilog2() as u64 + 1),
@@ -330,7 +438,7 @@ fn random_carry(random: &mut Random) -> Vec<Word> {
 /// A proof twice, each damaged at times, and a length of the pair buffer.
 pub fn some_compared(random: &mut Random) -> ([Proof; 2], usize) {
     let (place, size, _) = random_numbers(random);
-    let good = crate::proofs::made_inclusion(place, size, random);
+    let good = made_inclusion(place, size, random);
     let mut proofs = [good.clone(), good];
     for proof in &mut proofs {
         if random.one_in(4) {
@@ -366,5 +474,28 @@ mod tests {
             new.path = path.to_vec();
             assert_eq!(new.number(), 0);
         }
+    }
+
+    /// The numbers of both tables and of random ones, up to the longest paths.
+    #[test]
+    fn judged_carries_have_their_numbers() {
+        let random = &mut Random::new(64);
+        let (mut longest, mut plain) = ((0, 0), 0);
+        let any: Vec<_> = (0..300).map(|_| random_numbers(random)).collect();
+        for (place, first, second) in LARGE.into_iter().chain(PLAIN).chain(any) {
+            for one in [Carry::made(place, first, second, random), Carry::plain(place, first, second, 7)] {
+                for (refusal, one) in one.judged() {
+                    let answer = carry(&words_as_read(&one)).unwrap();
+                    assert_eq!(answer[0], number(refusal), "{place} from {first} to {second}");
+                }
+                longest = (longest.0.max(one.lent / 32), longest.1.max(one.step.path.len() / 32));
+            }
+        }
+        assert_eq!(longest, (64, 65));
+        for (place, first, second) in PLAIN {
+            let one = Carry::plain(place, first, second, 7);
+            plain += [&one.old.path, &one.step.path].iter().filter(|path| path.iter().all(|byte| *byte == 7)).count();
+        }
+        assert_eq!(plain, 2 * PLAIN.len());
     }
 }

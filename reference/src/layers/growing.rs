@@ -2,10 +2,11 @@
 //! of calls from a new tree.
 
 use crate::growing::{grow, of_list, Call, Growing, LEVELS};
+use crate::proofs::{near_power, next_to_powers};
 use crate::random::Random;
 use crate::requests::{lines_that_are_no_request, Asked, Entry, Layer, Requests};
 use crate::sha256::{digest, leaf};
-use crate::tree::{self, Hash, MOST_LEAVES};
+use crate::tree::{self, Hash, LARGEST_SIZE};
 use crate::words::{bytes, number, repeated, short, Word, MOST_BYTES};
 
 pub const LAYER: Layer = Layer {
@@ -236,16 +237,30 @@ fn ask_cuts(requests: &mut Requests, count: usize, both: bool, random: &mut Rand
 fn leaves_number(length: usize, count: u64) -> u64 {
     let sum = count as u128 + length as u128 / 32;
     match length % 32 {
-        0 => 6 * (sum > MOST_LEAVES as u128) as u64,
+        0 => 6 * (sum > LARGEST_SIZE as u128) as u64,
         _ => 10,
     }
+}
+
+/// The cases by hand of request 3, full-size logs, as its readings list them.
+fn full_size_cases() -> Vec<(u64, Asked)> {
+    let (top, full) = (plain(LARGEST_SIZE - 1, 0xa1), plain(LARGEST_SIZE, 0xb2));
+    vec![
+        (0, ask_leaves(&top, &[3; 32])),
+        (6, ask_leaves(&top, &[3; 64])),
+        (10, ask_leaves(&top, &[3; 33])),
+        (6, ask_page(&full, b"page")),
+        (0, ask_leaves(&full, &[])),
+    ]
 }
 
 /// Single calls of the papers' rules, with the number that must be given; of
 /// more counts and lengths where all are wanted.
 fn rules(all_wanted: bool) -> Vec<(u64, Asked)> {
     let random = &mut Random::new(32);
-    let (new, top, full) = (Growing::NEW, made_up(MOST_LEAVES - 1, random), made_up(MOST_LEAVES, random));
+    let (new, top, full) = (Growing::NEW, made_up(LARGEST_SIZE - 1, random), made_up(LARGEST_SIZE, random));
+    // A leaf that merges 32, 33 and 63 levels, and one behind it.
+    let before = [(1 << 32) - 1, (1 << 33) - 1, (1 << 63) - 1].map(|count| made_up(count, random));
     let mut all = vec![
         (0, ask_leaves(&new, &[])),
         (0, ask_page(&new, &[])),
@@ -253,24 +268,25 @@ fn rules(all_wanted: bool) -> Vec<(u64, Asked)> {
         (0, ask_leaves(&new, &[0; 64])),
         (0, ask_page(&top, b"page")),
         (0, ask_leaves(&top, &leaf(b"page"))),
-        (6, ask_leaves(&top, &[0; 64])),
-        (10, ask_leaves(&top, &[0; 65])),
         (10, ask_leaves(&full, &[0; 31])),
+        (6, ask_leaves(&full, &[0; 32])),
         (6, ask_page(&full, &[7])),
-        (0, ask_leaves(&full, &[])),
     ];
-    let (mut counts, mut lengths) = (vec![MOST_LEAVES, MOST_LEAVES + 1, u64::MAX], vec![0, 32, 33]);
+    all.extend(before.iter().map(|tree| (0, ask_page(tree, b"page"))));
+    all.extend(before.iter().map(|tree| (0, ask_leaves(tree, &[4; 64]))));
+    all.extend(full_size_cases());
+    let (mut counts, mut lengths) = (vec![LARGEST_SIZE - 2, 1 << 32, (1 << 32) + 1], vec![31, 32, 64, 96]);
     if all_wanted {
-        counts.extend([0, 1, (1 << 33) - 1, 1 << 33, 1 << 63, u64::MAX - 1]);
-        counts.extend([3, 2, 1].map(|less| MOST_LEAVES - less));
-        lengths.extend([1, 31, 63, 64, 65, 95, 96, 97, 128, 1_000, 1_024]);
+        counts.extend([0, 1, (1 << 32) - 1, (1 << 33) - 1, 1 << 33, (1 << 63) - 1, 1 << 63]);
+        counts.extend([32, 31, 4, 3, 1, 0].map(|less| LARGEST_SIZE - less));
+        lengths.extend([0, 1, 33, 63, 65, 95, 97, 128, 1_000, 1_024]);
     }
     for (at, count) in counts.iter().enumerate() {
         let tree = plain(*count, at as u8);
-        all.push((6 * (*count >= MOST_LEAVES) as u64, ask_page(&tree, b"a page")));
+        all.push((6 * (*count == LARGEST_SIZE) as u64, ask_page(&tree, b"a page")));
         all.extend(lengths.iter().map(|length| (leaves_number(*length, *count), ask_leaves(&tree, &vec![7; *length]))));
     }
-    for tree in [new, of_list(digest, &[[1; 32], [2; 32], [3; 32]]), top, plain(1 << 33, 6)] {
+    for tree in [new, of_list(digest, &[[1; 32], [2; 32], [3; 32]]), plain(LARGEST_SIZE, 6)] {
         for room in [0, 1, 31, 32, 33, 64] {
             all.push((if room < 32 { 9 } else { 0 }, ask_root_into(&tree, room, 0x5a)));
         }
@@ -303,16 +319,15 @@ fn cases(requests: &mut Requests) {
     for tree in [Growing::NEW, Growing::NEW.page(digest, b"").1, Growing::NEW.leaves(digest, &[0; 64]).1] {
         ask_all(requests, [ask_root(&tree)]);
     }
-    ask_all(requests, [ask_root(&made_up(MOST_LEAVES - 1, random).page(digest, b"page").1)]);
-    for count in [0, 2, 3, 0x5555_5555, 0xaaaa_aaaa, MOST_LEAVES - 1, MOST_LEAVES, 2 * MOST_LEAVES - 1, 2 * MOST_LEAVES, u64::MAX] {
+    for count in [0, 2, 3, u64::MAX / 3, u64::MAX / 3 * 2, (1 << 32) - 1, 1 << 32, 1 << 63, LARGEST_SIZE - 1, LARGEST_SIZE] {
         ask_all(requests, [ask_root(&made_up(count, random))]);
     }
-    for bit in 0..36 {
+    for bit in (10..64).step_by(17) {
         let count = (1 << bit) + random.below(1 << bit);
         ask_all(requests, [ask_root(&made_up(count, random))]);
     }
     // Trees that no list returns: what stands at the level of the new hash is written over, and the levels above stay.
-    for count in [1, 3, 11, 0x5555_5555] {
+    for count in [1, 3, 11, u64::MAX / 3, LARGEST_SIZE - 8] {
         let tree = made_up(count, random);
         ask_all(requests, [ask_page(&tree, b"next page"), ask_leaves(&tree, &some_hashes(3, random).concat())]);
     }
@@ -343,25 +358,25 @@ fn no_requests(requests: &mut Requests) {
         "grow x x",
         "grow 0",
         "grow_page",
-        "grow_page 1056*00 0",
-        "grow_page 1056*00 0 x x",
-        "grow_page 1056*00 0 0",
-        "grow_page 1056*00 x x",
-        "grow_page 0 1056*00 x",
-        "grow_page 1056*00 18446744073709551616 x",
-        "grow_leaves 1056*00 0",
-        "grow_leaves 1056*00 0 x 0",
-        "grow_leaves 1056*00 0 0",
-        "grow_leaves 1056*00 1*00 x",
-        "grow_root 1056*00",
-        "grow_root 1056*00 0 x",
-        "grow_root 1056*00 x00",
-        "grow_root 1056 0",
-        "grow_root_into 1056*00 0",
-        "grow_root_into 1056*00 0 32",
-        "grow_root_into 1056*00 0 32*00 32",
-        "grow_leaves 1056*00 0 1047521*00",
-        "grow_tree 1056*00 0 x",
+        "grow_page 2048*00 0",
+        "grow_page 2048*00 0 x x",
+        "grow_page 2048*00 0 0",
+        "grow_page 2048*00 x x",
+        "grow_page 0 2048*00 x",
+        "grow_page 2048*00 18446744073709551616 x",
+        "grow_leaves 2048*00 0",
+        "grow_leaves 2048*00 0 x 0",
+        "grow_leaves 2048*00 0 0",
+        "grow_leaves 2048*00 1*00 x",
+        "grow_root 2048*00",
+        "grow_root 2048*00 0 x",
+        "grow_root 2048*00 x00",
+        "grow_root 2048 0",
+        "grow_root_into 2048*00 0",
+        "grow_root_into 2048*00 0 32",
+        "grow_root_into 2048*00 0 32*00 32",
+        "grow_leaves 2048*00 0 1046529*00",
+        "grow_tree 2048*00 0 x",
     ] {
         requests.line(line.as_bytes());
     }
@@ -369,22 +384,14 @@ fn no_requests(requests: &mut Requests) {
 
 // The large run.
 
-/// Next to every power of two, to the limit and to the end of the numbers.
-fn counts() -> Vec<u64> {
-    let near = |bit: u32| (0..5).map(move |add| (1u64 << bit).wrapping_add(add).wrapping_sub(2));
-    let mut all: Vec<u64> = (0..64).flat_map(near).chain(u64::MAX - 3..=u64::MAX).collect();
-    all.sort();
-    all.dedup();
-    all
-}
-
-/// Trees that no list returns, with these counts and those about the limit.
+/// Trees that no list returns, with counts next to every power of two and those up to the largest.
 fn any_trees(requests: &mut Requests, random: &mut Random) {
-    for count in counts().into_iter().chain(MOST_LEAVES - 12..MOST_LEAVES + 4) {
+    for count in next_to_powers(2).into_iter().chain(LARGEST_SIZE - 12..=LARGEST_SIZE) {
         let tree = made_up(count, random);
         ask_all(requests, [ask_page(&tree, &random.bytes(9)), ask_root(&tree), ask_root_into(&tree, 32, 0)]);
-        let mut more = vec![0, 1, random.between(2, 9)];
-        if let Some(room) = MOST_LEAVES.checked_sub(count).filter(|room| *room <= 12) {
+        let mut more = vec![0, 1, 2, random.between(3, 9)];
+        let room = LARGEST_SIZE - count;
+        if room <= 12 {
             more.extend([room.saturating_sub(1), room, room + 1]);
         }
         for more in more {
@@ -417,17 +424,18 @@ fn boundary(requests: &mut Requests, random: &mut Random) {
     for more in [1, 2, 31, 32, 33, 255, 256, 257, 1_000, 2_047, 2_048, 4_000] {
         let joined = random.bytes(32 * more);
         ask_all(requests, [ask_leaves(&Growing::NEW, &joined), ask_grow(&[Call::Leaves(joined.clone())])]);
-        let most = MOST_LEAVES - more as u64;
+        let most = LARGEST_SIZE - more as u64;
         for count in [most - 1, most, most + 1] {
             ask_all(requests, [ask_leaves(&made_up(count, random), &joined)]);
         }
     }
     let most = MOST_BYTES - HASHES;
-    for count in [0, MOST_LEAVES - 32_735, MOST_LEAVES - 32_734] {
+    let leaves = most as u64 / 32;
+    for count in [0, LARGEST_SIZE - leaves, LARGEST_SIZE - leaves + 1] {
         ask_all(requests, [ask_leaves(&plain(count, 5), &vec![6; most])]);
     }
     for length in [0, 1, 54, 55, 56, 62, 63, 64, 65, 118, 119, 120, 1_000, 65_536, most] {
-        for count in [0, MOST_LEAVES - 1, MOST_LEAVES] {
+        for count in [0, LARGEST_SIZE - 1, LARGEST_SIZE] {
             ask_all(requests, [ask_page(&plain(count, 8), &vec![0x61; length])]);
         }
     }
@@ -474,14 +482,15 @@ fn full(requests: &mut Requests) {
 
 // Random requests.
 
-/// Three in four with room for more, some of these for few.
+/// Five in six with room for more, some of these for few.
 fn random_count(random: &mut Random) -> u64 {
     match random.below(12) {
         0 | 1 => random.below(70),
-        2..=4 => random.draw() >> random.between(32, 63),
-        5 | 6 => (1 << random.between(1, 32)) - random.between(1, 2),
-        7..=9 => MOST_LEAVES + 2 - random.below(12),
-        _ => (1u64 << random.below(64)).wrapping_add(random.below(5)).wrapping_sub(2),
+        2..=4 => random.draw() >> random.below(64),
+        5 | 6 => near_power(random),
+        7 => (1 << 32) - 5 + random.below(10),
+        8 | 9 => LARGEST_SIZE,
+        _ => LARGEST_SIZE - random.below(10),
     }
 }
 
@@ -507,7 +516,7 @@ fn damaged(mut tree: Growing, random: &mut Random) -> Growing {
         1 => tree.hashes[level % 6][random.below(32) as usize] ^= 1 << random.below(8),
         2 => tree.hashes.swap(level, level / 2),
         3 => tree.count = tree.count.wrapping_add(random.below(3)).wrapping_sub(1),
-        4 => tree.count ^= 1 << random.below(34),
+        4 => tree.count ^= 1 << random.below(64),
         _ => tree.count = random_count(random),
     }
     tree
@@ -532,7 +541,7 @@ fn random_page(random: &mut Random) -> Vec<Word> {
 /// Some leaf hashes, as many as there is room for, or a few more; some of a bad length.
 fn random_leaves(random: &mut Random) -> Vec<Word> {
     let tree = random_tree(random);
-    let room = MOST_LEAVES.saturating_sub(tree.count);
+    let room = LARGEST_SIZE - tree.count;
     let count = match random.below(6) {
         0 if room < 50 => room,
         1 if room < 50 => room + random.between(1, 3),
@@ -634,15 +643,15 @@ mod tests {
         let empty_page = "6e340b9cffb37a989ca544e6bb780a2c78901d3fb33738768511a30617afa01d";
         let two_zeros = "ae0798d0ecaed2b778eddebf18f071a561c53658c05e76cedecc27cafbdbc577";
         let rest = &zeros[64..];
-        assert_eq!(ask("grow_root 1056*00 0"), format!("x{empty}\n"));
-        assert_eq!(ask("grow_root_into 1056*00 0 33*07"), format!("0 32 x{empty}07\n"));
-        assert_eq!(ask("grow_root_into 1056*00 0 2*07"), "9 0 x0707\n");
-        assert_eq!(ask("grow_page 1056*00 0 x"), format!("0 x{empty_page}{rest} 1\n"));
-        assert_eq!(ask("grow_leaves 1056*00 0 x"), format!("0 x{zeros} 0\n"));
-        assert_eq!(ask("grow_leaves 1056*00 0 32*05"), format!("0 x{five}{rest} 1\n"));
-        assert_eq!(ask("grow_leaves 1056*00 0 33*05"), format!("10 x{zeros} 0\n"));
-        assert_eq!(ask("grow_leaves 1056*00 4294967296 32*05"), format!("6 x{zeros} 4294967296\n"));
-        assert_eq!(ask("grow_page 1056*00 4294967296 x"), format!("6 x{zeros} 4294967296\n"));
+        assert_eq!(ask("grow_root 2048*00 0"), format!("x{empty}\n"));
+        assert_eq!(ask("grow_root_into 2048*00 0 33*07"), format!("0 32 x{empty}07\n"));
+        assert_eq!(ask("grow_root_into 2048*00 0 2*07"), "9 0 x0707\n");
+        assert_eq!(ask("grow_page 2048*00 0 x"), format!("0 x{empty_page}{rest} 1\n"));
+        assert_eq!(ask("grow_leaves 2048*00 0 x"), format!("0 x{zeros} 0\n"));
+        assert_eq!(ask("grow_leaves 2048*00 0 32*05"), format!("0 x{five}{rest} 1\n"));
+        assert_eq!(ask("grow_leaves 2048*00 0 33*05"), format!("10 x{zeros} 0\n"));
+        assert_eq!(ask("grow_leaves 2048*00 18446744073709551615 32*05"), format!("6 x{zeros} 18446744073709551615\n"));
+        assert_eq!(ask("grow_page 2048*00 18446744073709551615 x"), format!("6 x{zeros} 18446744073709551615\n"));
         assert_eq!(ask("grow x"), format!("x x{zeros} 0\n"));
         // An empty page, a refused call, and half a call.
         let told = format!("00{empty_page}0a{empty_page}");
@@ -651,7 +660,7 @@ mod tests {
             ask(&format!("grow x0100000040{}", "00".repeat(64))),
             format!("x00{two_zeros} x{}{two_zeros}{} 2\n", &zeros[..64], &zeros[128..])
         );
-        for line in ["grow_root 1055*00 0", "grow_root 1057*00 0", "grow_root 1088*00 0", "grow_page x 0 x", "grow 1"] {
+        for line in ["grow_root 2047*00 0", "grow_root 2049*00 0", "grow_root 2080*00 0", "grow_page x 0 x", "grow 1"] {
             assert_eq!(ask(line), "?\n", "{line}");
         }
     }

@@ -1,11 +1,14 @@
 //! The tree: root, inclusion path and consistency path built into lent buffers,
 //! both verdicts, and the counts of a path's nodes.
 
-use crate::proofs::{self, damaged, damaged_lengths, damaged_nodes, made_consistency, made_inclusion, List, Proof, LARGE};
+use crate::proofs::{
+    self, damaged, damaged_lengths, damaged_nodes, judged, made_consistency, made_inclusion, near_power, next_to_powers, plain_consistency,
+    plain_inclusion, some_places, List, Proof,
+};
 use crate::random::Random;
 use crate::requests::{lines_that_are_no_request, Entry, Layer, Requests};
 use crate::sha256::{digest, node};
-use crate::tree::{self, Hash, MOST_LEAVES};
+use crate::tree::{self, split, Hash, LARGEST_SIZE};
 use crate::words::{bytes, number, repeated, Word};
 use crate::yields::{CONSISTENCY_COUNTS, INCLUSION_COUNTS};
 use crate::{verdict, yields};
@@ -164,21 +167,9 @@ fn cases(requests: &mut Requests) {
             list.consistency(1 + random.below(size as u64)).ask(requests);
         }
     }
-    for (at, size) in [
-        (1 << 30, 1 << 31),
-        (1 << 31, (1 << 31) + 1),
-        (0, MOST_LEAVES - 1),
-        (MOST_LEAVES - 2, MOST_LEAVES),
-        (MOST_LEAVES - 1, MOST_LEAVES),
-        (MOST_LEAVES / 2, MOST_LEAVES + 1),
-        (5, 1 << 63),
-        (u64::MAX - 1, u64::MAX),
-    ] {
-        made_inclusion(at, size, random).ask(requests);
-        made_consistency(at + 1, size, random).ask(requests);
-    }
+    large_cases(requests, random);
     // No place and no first size of these.
-    for numbers in [[0, 0], [1, 0], [u64::MAX, 0], [u64::MAX, 1], [u64::MAX, u64::MAX], [0, u64::MAX], [MOST_LEAVES, MOST_LEAVES]] {
+    for numbers in [[0, 0], [1, 0], [u64::MAX, 0], [u64::MAX, 1], [u64::MAX, u64::MAX], [0, u64::MAX], [1 << 32, 1 << 32]] {
         for is_inclusion in [true, false] {
             let hash = random.hash().to_vec();
             Proof { is_inclusion, numbers, hashes: [hash.clone(), hash], path: vec![] }.ask(requests);
@@ -268,8 +259,64 @@ fn papers_cases(requests: &mut Requests, random: &mut Random) {
     Proof::consistency(4, 4, &k, &k, &[l]).ask(requests);
     Proof::consistency(0, 7, &k, &root, &[l]).ask(requests);
     Proof::consistency(7, 3, &root, &k, &[l]).ask(requests);
-    made_inclusion(5, MOST_LEAVES, random).ask(requests);
-    made_inclusion(5, MOST_LEAVES + 1, random).ask(requests);
+    for size in [1 << 32, (1 << 32) + 1, 1 << 63, LARGEST_SIZE - 1, LARGEST_SIZE] {
+        made_inclusion(5, size, random).ask(requests);
+    }
+}
+
+/// The cases by hand of request 3, full-size logs, as its readings list them: a and
+/// b are any hashes, and each case has the number that must be given.
+fn full_size_cases() -> Vec<(u64, Proof)> {
+    const PAST: u64 = (1 << 32) + 1;
+    const LAST: u64 = LARGEST_SIZE;
+    let (a, b) = ([0xa1; 32], [0xb2; 32]);
+    let at_the_start = |count: usize| Proof::inclusion(&a, 0, LAST, &(0..64).fold(a, |root, _| node(&root, &b)), &vec![b; count]);
+    let at_the_end = |root: &Hash| Proof::inclusion(&a, LAST - 1, LAST, root, &[b; 63]);
+    vec![
+        (0, Proof::inclusion(&a, 1 << 32, PAST, &node(&b, &a), &[b])),
+        (7, Proof::inclusion(&a, 0, PAST, &node(&b, &a), &[b])),
+        (0, Proof::consistency(1 << 32, PAST, &a, &node(&a, &b), &[b])),
+        (0, at_the_start(64)),
+        (7, at_the_start(63)),
+        (7, at_the_start(65)),
+        (6, Proof::inclusion(&a, LAST, LAST, &a, &[b; 64])),
+        (0, at_the_end(&(0..63).fold(a, |root, _| node(&b, &root)))),
+        (8, at_the_end(&a)),
+        (0, Proof::consistency(LAST, LAST, &a, &a, &[])),
+        (7, Proof::consistency(LAST, LAST, &a, &a, &[b])),
+    ]
+}
+
+/// Sizes up to the largest: of made proofs a few with any nodes, which are long,
+/// and many with nodes of one byte.
+fn large_cases(requests: &mut Requests, random: &mut Random) {
+    full_size_cases().iter().for_each(|(_, proof)| proof.ask(requests));
+    for (at, size) in [
+        (1 << 31, (1 << 31) + 1),
+        ((1 << 32) - 2, 1 << 32),
+        (1 << 31, (1 << 32) + 1),
+        ((1 << 32) - 1, (1 << 32) + 1),
+        (5, 1 << 63),
+        ((1 << 63) - 1, LARGEST_SIZE - 1),
+        (2, LARGEST_SIZE),
+        (LARGEST_SIZE - 2, LARGEST_SIZE),
+    ] {
+        made_inclusion(at, size, random).ask(requests);
+        made_consistency(at + 1, size, random).ask(requests);
+    }
+    for (turn, size) in next_to_powers(1).into_iter().filter(|size| *size > 9).enumerate() {
+        let places = [0, split(size), size - 1, split(size) - 1, size - 2, size / 3, (split(size) + 1).min(size - 1)];
+        plain_inclusion(places[turn % 7], size, turn as u8).ask(requests);
+        plain_consistency(places[(turn + 3) % 7] + 1, size, turn as u8).ask(requests);
+    }
+    for (at, size) in
+        [(1 << 32, (1 << 32) + 1), (5, 1 << 63), (1 << 63, LARGEST_SIZE - 1), (0, LARGEST_SIZE), (LARGEST_SIZE - 2, LARGEST_SIZE)]
+    {
+        for proof in [plain_inclusion(at, size, 3), plain_consistency(at + 1, size, 4)] {
+            judged(&proof).iter().for_each(|(_, proof)| proof.ask(requests));
+            damaged(&proof, random).iter().filter(|other| other.path == proof.path).for_each(|proof| proof.ask(requests));
+        }
+    }
 }
 
 /// 10, then 6, then 9, each alone and before the others.
@@ -335,15 +382,23 @@ fn full(requests: &mut Requests) {
             }
         }
     }
-    for size in LARGE {
-        for at in [0, 1, size / 2 - 1, size / 2, size - 2, size - 1, random.below(size), random.below(size)] {
+    full_large(requests, random);
+}
+
+/// Sizes next to every power of two up to the largest, at the ends, next to powers
+/// of two and anywhere: judged, and judged damaged.
+fn full_large(requests: &mut Requests, random: &mut Random) {
+    for size in next_to_powers(2).into_iter().filter(|size| *size > 40) {
+        for (turn, at) in some_places(size, random).into_iter().enumerate() {
             for proof in [made_inclusion(at, size, random), made_consistency(at + 1, size, random)] {
                 proof.ask(requests);
-                if size <= MOST_LEAVES {
-                    damaged(&proof, random).iter().for_each(|proof| proof.ask(requests));
-                    let nodes = damaged_nodes(&proof, random);
-                    nodes.iter().step_by(13).for_each(|proof| proof.ask(requests));
+                let kinds = [damaged(&proof, random), damaged_nodes(&proof, random), damaged_lengths(&proof, random)];
+                for others in kinds.iter().filter(|others| !others.is_empty()) {
+                    random.pick(others).ask(requests);
                 }
+            }
+            for proof in [plain_inclusion(at, size, turn as u8), plain_consistency(at + 1, size, turn as u8)] {
+                judged(&proof).iter().for_each(|(_, proof)| proof.ask(requests));
             }
         }
     }
@@ -421,7 +476,7 @@ fn any_number(random: &mut Random) -> u64 {
     if random.one_in(2) {
         return random.draw() >> random.below(64);
     }
-    (1u64 << random.below(64)).wrapping_add(random.below(5)).wrapping_sub(2)
+    near_power(random)
 }
 
 /// A place or first size, and a size: half of the time in range, else next to each other or any two.
@@ -467,17 +522,29 @@ mod tests {
         assert_eq!(ask("subproof_count 4 7 2"), "?\n");
     }
 
+    fn ask_proof(proof: &Proof) -> String {
+        let mut requests = Vec::new();
+        proof.ask(&mut Requests::new(&mut requests));
+        ask(String::from_utf8(requests).unwrap().trim_end())
+    }
+
+    #[test]
+    fn full_size_cases_have_their_numbers() {
+        for (number, proof) in full_size_cases() {
+            assert_eq!(ask_proof(&proof), format!("{number}\n"), "{:?}", proof.numbers);
+        }
+    }
+
+    /// Made proofs as they are read, of any nodes and of nodes of one byte, which are written shorter.
     #[test]
     fn made_proofs_are_accepted() {
         let random = &mut Random::new(1);
-        for size in LARGE {
-            let expected = if size <= MOST_LEAVES { "0\n" } else { "6\n" };
+        for size in next_to_powers(1).into_iter().filter(|size| *size > 1) {
             for at in [0, size / 2, size - 1] {
-                for proof in [made_inclusion(at, size, random), made_consistency(at + 1, size, random)] {
-                    let mut requests = Vec::new();
-                    proof.ask(&mut Requests::new(&mut requests));
-                    let line = String::from_utf8(requests).unwrap();
-                    assert_eq!(ask(line.trim_end()), expected);
+                let made = [made_inclusion(at, size, random), made_consistency(at + 1, size, random)];
+                let plain = [plain_inclusion(at, size, 9), plain_consistency(at + 1, size, 9)];
+                for (number, proof) in made.iter().chain(&plain).flat_map(judged) {
+                    assert_eq!(ask_proof(&proof), format!("{number}\n"), "{:?}", proof.numbers);
                 }
             }
         }
