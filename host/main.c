@@ -1,4 +1,4 @@
-/* A host program: document 01's cases through the static library, one line a check that fails.
+/* A host program: document 01's cases and request 3's through the static library, one line a check that fails.
  * The last line is 'N passed, M failed'. */
 #include "mta.h"
 
