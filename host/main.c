@@ -1,11 +1,11 @@
-/* A host program: document 01's cases through the static library, one line a check that fails.
+/* A host program: document 01's cases and request 3's through the static library, one line a check that fails.
  * The last line is 'N passed, M failed'. */
 #include "mta.h"
 
 #include <stdio.h>
 #include <string.h>
 
-enum { HASH = 32, MOST = 8, PAIR = 130, BEFORE = 0xa5, ODD = 987654321 };
+enum { HASH = 32, MOST = 66, PAIR = 130, BEFORE = 0xa5, ODD = 987654321 };
 
 typedef struct {
     uint8_t bytes[HASH];
@@ -165,6 +165,60 @@ static void words(void)
     holds_true("words of no number", strcmp(mta_refusal(UINT32_MAX), mta_refusal(MTA_NO_HEAD + 1)) == 0);
 }
 
+/* These nodes, and then a last one so often that there are so many. */
+static Path extended(Path p, Hash last, size_t count)
+{
+    for (; p.length < HASH * count; p.length += HASH)
+        memcpy(p.bytes + p.length, last.bytes, HASH);
+    return p;
+}
+
+/* Sizes that 32 bits do not hold: the last leaf of 2^32 + 1 has all others in one node beside it. */
+static void past_32_bits(Hash a, Hash b)
+{
+    uint64_t last = UINT64_C(1) << 32;
+
+    expect("place 2^32 of 2^32 + 1", included(a, last, last + 1, node(b, a), PATH(b)), MTA_OK);
+    expect("place 0 of 2^32 + 1 by one node", included(a, 0, last + 1, node(a, b), PATH(b)), MTA_COUNT);
+    expect("place 2^32 + 1 of 2^32 + 1", included(a, last + 1, last + 1, node(b, a), PATH(b)), MTA_RANGE);
+    expect("2^32 to 2^32 + 1", consistent(last, last + 1, a, node(a, b), PATH(b)), MTA_OK);
+    expect("2^32 + 1 to 2^32 + 1", consistent(last + 1, last + 1, a, a, none), MTA_OK);
+    expect("2^32 + 1 to 2^32", consistent(last + 1, last, a, a, none), MTA_RANGE);
+}
+
+/* The largest size, by place 2 of the first three leaves: a path of 64 nodes, a consistency path of 65. All further
+ * nodes are the same. */
+static void largest_size(Proof p, Hash d, Hash g, Hash k)
+{
+    Path by = extended(PATH(p.leaf, d, g), d, 65), longest = extended(PATH(d, g), d, 64);
+    Path shorter = {.length = longest.length - HASH}, longer = extended(longest, d, 65);
+    Hash root = k, end = d;
+
+    memcpy(shorter.bytes, longest.bytes, shorter.length);
+    for (int level = 2; level < 64; level++)
+        root = node(root, d);
+    for (int level = 1; level < 64; level++)
+        end = node(g, end);
+    expect("place 2 of 2^64 - 1", included(p.leaf, 2, UINT64_MAX, root, longest), MTA_OK);
+    expect("by 63 nodes", included(p.leaf, 2, UINT64_MAX, root, shorter), MTA_COUNT);
+    expect("by 65 nodes", included(p.leaf, 2, UINT64_MAX, root, longer), MTA_COUNT);
+    expect("another leaf of 2^64 - 1", included(d, 2, UINT64_MAX, root, longest), MTA_ROOT);
+    expect("place 2^64 - 2", included(d, UINT64_MAX - 1, UINT64_MAX, end, extended(none, g, 63)), MTA_OK);
+    expect("place 2^64 - 1", included(p.leaf, UINT64_MAX, UINT64_MAX, root, longest), MTA_RANGE);
+    expect("3 to 2^64 - 1", consistent(3, UINT64_MAX, p.root, root, by), MTA_OK);
+    expect("by 66 nodes", consistent(3, UINT64_MAX, p.root, root, extended(by, d, 66)), MTA_COUNT);
+    expect("2^64 - 1 to 2^64 - 1", consistent(UINT64_MAX, UINT64_MAX, root, root, none), MTA_OK);
+    expect("2^64 - 1 to 2^64 - 1 with a node", consistent(UINT64_MAX, UINT64_MAX, root, root, PATH(d)), MTA_COUNT);
+    expect("2^64 - 1 to 2^64 - 2", consistent(UINT64_MAX, UINT64_MAX - 1, root, root, none), MTA_RANGE);
+
+    carries("place 2 from 3 to 2^64 - 1", p, UINT64_MAX, root, by, 2048, PAIR, MTA_OK, longest);
+    carries("2,047 bytes for 64 nodes", p, UINT64_MAX, root, by, 2047, PAIR, MTA_ROOM, none);
+    Proof last = {p.leaf, 2, UINT64_MAX, root, longest};
+    carries("place 2 from 2^64 - 1 to itself", last, UINT64_MAX, root, none, 2048, PAIR, MTA_OK, longest);
+    compares("two paths of 64 nodes", last, p.leaf, longest, PAIR, MTA_OK);
+    compares("of 64 and of 65 nodes", last, p.leaf, longer, PAIR, MTA_COUNT);
+}
+
 /* A slice of length 0 may be NULL. */
 static void empty_slices(Hash h)
 {
@@ -201,7 +255,6 @@ int main(void)
     Hash a = leaf('a'), b = leaf('b'), c = leaf('c'), d = leaf('d'), e = leaf('e'), f = leaf('f'), j = leaf('j');
     Hash g = node(a, b), h = node(c, d), i = node(e, f), k = node(g, h), l = node(i, j), root = node(k, l);
     Hash root3 = node(g, c), root6 = node(k, i);
-    uint64_t largest = UINT64_C(1) << 32;
 
     expect("place 0 of 7", included(a, 0, 7, root, PATH(b, h, l)), MTA_OK);
     expect("place 3 of 7", included(d, 3, 7, root, PATH(c, g, l)), MTA_OK);
@@ -227,9 +280,6 @@ int main(void)
     expect("4 to 4, another root", consistent(4, 4, k, root, none), MTA_ROOT);
     expect("0 to 7", consistent(0, 7, k, root, PATH(l)), MTA_RANGE);
     expect("7 to 3", consistent(7, 3, root, root3, none), MTA_RANGE);
-    expect("the largest size", consistent(largest, largest, root, root, none), MTA_OK);
-    expect("one more than that", consistent(largest + 1, largest + 1, root, root, none), MTA_RANGE);
-    expect("the largest number", included(a, UINT64_MAX, UINT64_MAX, root, none), MTA_RANGE);
     expect("half a node", mta_inclusion(a.bytes, HASH, 0, 7, root.bytes, HASH, root.bytes, 31), MTA_JOINED);
 
     Proof first3 = {a, 0, 3, root3, PATH(b, c)}, last3 = {c, 2, 3, root3, PATH(g)};
@@ -257,6 +307,8 @@ int main(void)
     writes("half a node in an item", log, sizeof log, 31, 56, MTA_JOINED);
     writes("an item too long for its buffer", log, sizeof log, 0, 22, MTA_ROOM);
 
+    past_32_bits(a, b);
+    largest_size(last3, d, g, k);
     empty_slices(a);
     words();
     printf("%d passed, %d failed\n", passed, failed);

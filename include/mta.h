@@ -14,7 +14,10 @@
  * read may overlap.
  *
  * A path is its nodes joined, 32 bytes each, so a node of another length is not seen: one of 16 bytes
- * and one of 48 pass as two. A caller who holds a list of nodes checks each before joining them. */
+ * and one of 48 pass as two. A caller who holds a list of nodes checks each before joining them.
+ *
+ * A tree has 1 to 2^64 - 1 leaves, so that every size but 0 is in range. A path has at most 64 nodes
+ * (2,048 bytes), a consistency path at most 65. */
 #ifndef MTA_H
 #define MTA_H
 

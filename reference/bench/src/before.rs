@@ -4,9 +4,10 @@
 
 use crate::best;
 use crate::library::{before, Library, OURS};
-use crate::pairs::{bare_nodes, needed, time, verdicts, ALTERNATING, TURNS, TURN_NANOSECONDS};
+use crate::pairs::{alternating, bare_nodes, needed, time, verdicts, TURNS, TURN_NANOSECONDS};
 use reference::proofs::{made_consistency, made_inclusion, Proof};
 use reference::random::Random;
+use reference::tree::LARGEST_SIZE;
 use std::hint::black_box;
 
 /// The best turns of all jobs, which take turns.
@@ -26,7 +27,7 @@ fn best_of<const COUNT: usize>(mut jobs: [&mut dyn FnMut(); COUNT]) -> [f64; COU
 fn refused(proof: &Proof) -> [Proof; 2] {
     let [_, size] = proof.numbers;
     let short = Proof { path: Vec::new(), ..proof.clone() };
-    let past = Proof { numbers: [size + u64::from(!proof.is_inclusion), size], ..short.clone() };
+    let past = Proof { numbers: [size, size - u64::from(!proof.is_inclusion)], ..short.clone() };
     [(short, 7), (past, 6)].map(|(proof, number)| {
         assert_eq!(OURS.judge(&proof), number);
         proof
@@ -35,6 +36,10 @@ fn refused(proof: &Proof) -> [Proof; 2] {
 
 fn count_alone(name: &str, proof: &Proof, library: Library) {
     let [short, past] = refused(proof);
+    // Past the largest size of the earlier library there is nothing to compare.
+    if library.judge(&short) == 6 {
+        return;
+    }
     let judge = |library: Library, proof: &Proof| {
         black_box(library.judge(black_box(proof)));
     };
@@ -51,14 +56,14 @@ pub fn print_table() {
     println!("beside the library given as MTA_BEFORE; nanoseconds of the best of {TURNS} turns");
     println!();
     println!("{:<40}{:>12}{:>12}{:>14}", "count of nodes alone", "ours", "before", "ours / before");
-    for (name, size) in [("2^10", 1 << 10), ("2^32", 1 << 32), ("2^32 - 1", (1 << 32) - 1)] {
-        count_alone(&format!("inclusion at {name}"), &made_inclusion(ALTERNATING % size, size, random), library);
-        count_alone(&format!("consistency to {name}"), &made_consistency(ALTERNATING % size, size, random), library);
+    for (name, size) in [("2^10", 1 << 10), ("2^32", 1 << 32), ("2^32 - 1", (1 << 32) - 1), ("2^64 - 1", LARGEST_SIZE)] {
+        count_alone(&format!("inclusion at {name}"), &made_inclusion(alternating(size), size, random), library);
+        count_alone(&format!("consistency to {name}"), &made_consistency(alternating(size), size, random), library);
         count_alone(&format!("consistency from 1 to {name}"), &made_consistency(1, size, random), library);
     }
     println!();
     println!("{:<40}{:>12}{:>12}{:>14}{:>14}", "verdict", "ours", "before", "ours / bare", "before / bare");
-    for (name, proof) in verdicts(random) {
+    for (name, proof) in verdicts(random).into_iter().filter(|(_, proof)| library.judge(proof) != 6) {
         let hashes = needed(&proof);
         let [ours, other, bare] = best_of([
             &mut || assert_eq!(OURS.judge(black_box(&proof)), 0),

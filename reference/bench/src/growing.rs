@@ -3,6 +3,7 @@
 
 use crate::pairs::node;
 use crate::{best, median};
+use reference::growing::LEVELS;
 use reference::pace;
 use reference::tree::Hash;
 use std::hint::black_box;
@@ -42,12 +43,12 @@ impl Pace {
 
 /// The hash at level i stands for 2^i leaves, where bit i of the count is one.
 struct Frontier {
-    hashes: [Hash; 33],
+    hashes: [Hash; LEVELS],
     count: u64,
 }
 
 impl Frontier {
-    const NEW: Frontier = Frontier { hashes: [[0; 32]; 33], count: 0 };
+    const NEW: Frontier = Frontier { hashes: [[0; 32]; LEVELS], count: 0 };
 
     fn add(&mut self, leaf: &Hash) {
         let (mut level, mut hash) = (0, *leaf);

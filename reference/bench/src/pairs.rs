@@ -3,12 +3,15 @@
 
 use crate::library::OURS;
 use crate::{best, median};
-use mta::{mta_carry, mta_compare, mta_consistency_item, mta_inclusion, mta_item, mta_node, mta_root};
+use mta::{mta_carry, mta_compare, mta_consistency_item, mta_item, mta_node, mta_root};
+use reference::carry::{carry, PAIR};
 use reference::item::{self, Fields, LONGEST_PATH};
+use reference::layers::carry::Carry;
 use reference::proofs::{made_consistency, made_inclusion, Proof};
 use reference::random::Random;
 use reference::sha256::digest;
-use reference::tree::{self, Hash};
+use reference::tree::{self, Hash, LARGEST_SIZE};
+use reference::verdict::Inclusion;
 use std::hint::black_box;
 use std::time::Instant;
 
@@ -68,20 +71,24 @@ pub fn needed(proof: &Proof) -> usize {
     count
 }
 
-/// Ones and zeros in turn.
-pub const ALTERNATING: u64 = 0xaaaa_aaaa;
+/// Ones and zeros in turn, as many as the last place has.
+pub fn alternating(size: u64) -> u64 {
+    0xaaaa_aaaa_aaaa_aaaa >> (size - 1).leading_zeros()
+}
 
-/// Proofs at sizes whose paths have 10, 20 and 32 nodes.
+/// Proofs at sizes whose paths have 10, 20 and 32 nodes, and the longest ones.
 pub fn verdicts(random: &mut Random) -> Vec<(String, Proof)> {
     let mut all = Vec::new();
     for nodes in [10, 20, 32] {
         let size = 1 << nodes;
-        all.push(("inclusion", made_inclusion(ALTERNATING % size, size, random)));
+        all.push(("inclusion", made_inclusion(alternating(size), size, random)));
     }
+    all.push(("inclusion", made_inclusion(0, LARGEST_SIZE, random)));
     for nodes in [10, 20, 32] {
         let size = 1 << nodes;
-        all.push(("consistency", made_consistency(ALTERNATING % size, size, random)));
+        all.push(("consistency", made_consistency(alternating(size), size, random)));
     }
+    all.push(("consistency from 3", made_consistency(3, LARGEST_SIZE, random)));
     for nodes in [10, 20, 32] {
         all.push(("consistency from 1", made_consistency(1, 1 << nodes, random)));
     }
@@ -99,89 +106,74 @@ fn judged(name: String, proof: Proof) -> Pair {
     }
 }
 
-/// A log of equal leaves, so that full subtrees of one size have one root: an
-/// inclusion proof of place 0 at 2^32 - 1 leaves, and a consistency proof from
-/// there to 2^32.
+/// An inclusion proof of place 0, a consistency proof to the next size, and the path there.
+#[derive(Clone)]
 struct Log {
-    leaf: Hash,
-    old: Hash,
-    new: Hash,
-    path: Vec<u8>,
-    proof: Vec<u8>,
+    one: Carry,
     longer: Vec<u8>,
 }
 
-const OLD_SIZE: u64 = NEW_SIZE - 1;
-const NEW_SIZE: u64 = 1 << 32;
-
 impl Log {
-    fn new(leaf: Hash) -> Log {
-        let mut full = vec![leaf];
-        for level in 0..32 {
-            full.push(node(&full[level], &full[level]));
-        }
-        let mut old = leaf;
-        let mut path = full[..31].concat();
-        for (level, hash) in full[1..32].iter().enumerate() {
-            if level == 30 {
-                path.extend(old);
-            }
-            old = node(hash, &old);
-        }
-        let proof = [&[leaf], &full[..32]].concat().concat();
-        Log { leaf, old, new: full[32], path, proof, longer: full[..32].concat() }
+    fn new(size: u64, random: &mut Random) -> Log {
+        let one = Carry::made(0, size - 1, size, random);
+        let ([leaf, root], [_, new]) = (&one.old.hashes, &one.step.hashes);
+        let old = Inclusion { leaf, place: 0, size: size - 1, root, path: &one.old.path };
+        let mut longer = vec![0; one.lent];
+        carry(digest, &old, size, new, &one.step.path, &mut longer, &mut [0; PAIR]).unwrap();
+        Log { one, longer }
     }
 
     fn judged(&self) {
-        let (leaf, root, path) = (&self.leaf, &self.old, &self.path);
-        assert_eq!(unsafe { mta_inclusion(leaf.as_ptr(), 32, 0, OLD_SIZE, root.as_ptr(), 32, path.as_ptr(), path.len()) }, 0);
+        assert_eq!(OURS.judge(&self.one.old), 0);
     }
 
     fn carried(&self) {
-        let (mut out, mut pair, mut written, mut collided) = ([0; 1024], [0; 130], 0, true);
+        let (mut out, mut pair, mut written, mut collided) = ([0; 2048], [0; PAIR], 0, true);
+        let Carry { old, step, .. } = &self.one;
         let number = unsafe {
             mta_carry(
-                self.leaf.as_ptr(),
+                old.hashes[0].as_ptr(),
                 32,
                 0,
-                OLD_SIZE,
-                NEW_SIZE,
-                self.old.as_ptr(),
+                old.numbers[1],
+                step.numbers[1],
+                old.hashes[1].as_ptr(),
                 32,
-                self.new.as_ptr(),
+                step.hashes[1].as_ptr(),
                 32,
-                self.path.as_ptr(),
-                self.path.len(),
-                self.proof.as_ptr(),
-                self.proof.len(),
+                old.path.as_ptr(),
+                old.path.len(),
+                step.path.as_ptr(),
+                step.path.len(),
                 out.as_mut_ptr(),
-                out.len(),
+                self.longer.len(),
                 pair.as_mut_ptr(),
                 pair.len(),
                 &mut written,
                 &mut collided,
             )
         };
-        assert_eq!((number, written, collided, &out[..]), (0, 1024, false, &self.longer[..]));
+        assert_eq!((number, collided, &out[..written as usize]), (0, false, &self.longer[..]));
     }
 
     fn compared(&self) {
-        let (mut pair, mut collided) = ([0; 130], true);
-        let (leaf, path) = (self.leaf.as_ptr(), self.path.as_ptr());
+        let (mut pair, mut collided) = ([0; PAIR], true);
+        let old = &self.one.old;
+        let (leaf, path) = (old.hashes[0].as_ptr(), old.path.as_ptr());
         let number = unsafe {
             mta_compare(
                 0,
-                OLD_SIZE,
-                self.old.as_ptr(),
+                old.numbers[1],
+                old.hashes[1].as_ptr(),
                 32,
                 leaf,
                 32,
                 path,
-                self.path.len(),
+                old.path.len(),
                 leaf,
                 32,
                 path,
-                self.path.len(),
+                old.path.len(),
                 pair.as_mut_ptr(),
                 pair.len(),
                 &mut collided,
@@ -192,18 +184,23 @@ impl Log {
 }
 
 fn forward(random: &mut Random) -> Vec<Pair> {
-    let leaf = random.hash();
-    let pair = |name: &str, job: fn(&Log)| {
-        let (one, two) = (Log::new(leaf), Log::new(leaf));
-        Pair {
-            name: name.to_string(),
-            other_name: "inclusion verdict".to_string(),
-            ours: Box::new(move || job(black_box(&one))),
-            other: Box::new(move || black_box(&two).judged()),
-            target: Target::AtMost(4.0),
-        }
-    };
-    vec![pair("carry, 32 levels", Log::carried), pair("compare, 32 levels", Log::compared)]
+    let mut all = Vec::new();
+    for (levels, size) in [(32, 1 << 32), (64, LARGEST_SIZE)] {
+        let log = Log::new(size, random);
+        let mut pair = |name: &str, job: fn(&Log)| {
+            let (one, two) = (log.clone(), log.clone());
+            all.push(Pair {
+                name: format!("{name}, {levels} levels"),
+                other_name: "inclusion verdict".to_string(),
+                ours: Box::new(move || job(black_box(&one))),
+                other: Box::new(move || black_box(&two).judged()),
+                target: Target::AtMost(4.0),
+            });
+        };
+        pair("carry", Log::carried);
+        pair("compare", Log::compared);
+    }
+    all
 }
 
 fn plain_root(leaves: &[Hash]) -> Hash {

@@ -8,7 +8,7 @@ use reference::layers::carry::{some_carry, some_compared, Carry};
 use reference::proofs::{damaged, damaged_lengths, damaged_nodes, made_inclusion, List, Proof, LARGE};
 use reference::random::Random;
 use reference::sha256::digest;
-use reference::tree::MOST_LEAVES;
+use reference::tree::LARGEST_SIZE;
 use reference::verdict::Inclusion;
 
 fn inclusion(proof: &Proof) -> Inclusion<'_> {
@@ -16,8 +16,8 @@ fn inclusion(proof: &Proof) -> Inclusion<'_> {
     Inclusion { leaf, place, size, root, path }
 }
 
-/// The old size and root come from the inclusion proof. A refused call leaves both results as they were.
-fn carry(one: &Carry, tally: &mut Tally, random: &mut Random) {
+/// The old size and root come from the inclusion proof. A refused call leaves both results as they were. The number that it must have.
+fn carry(one: &Carry, tally: &mut Tally, random: &mut Random) -> u64 {
     let Carry { old, step, lent, pair } = one;
     let (out, pair) = (random.bytes(*lent), random.bytes(*pair));
     let (mut out_after, mut pair_after) = (out.clone(), pair.clone());
@@ -62,10 +62,11 @@ fn carry(one: &Carry, tally: &mut Tally, random: &mut Random) {
     tally.count("mta_carry", expected, found, is_read_right && is_written_right, || {
         format!("{:?} to {:?}, out of {}, pair of {}", old.words(), step.words(), out.len(), pair.len())
     });
+    expected
 }
 
-/// The place, size and root come from the first proof. A refused call leaves the result as it was.
-fn compare([one, two]: [&Proof; 2], pair: usize, tally: &mut Tally, random: &mut Random) {
+/// The place, size and root come from the first proof. A refused call leaves the result as it was. The number that it must have.
+fn compare([one, two]: [&Proof; 2], pair: usize, tally: &mut Tally, random: &mut Random) -> u64 {
     let pair = random.bytes(pair);
     let mut after = pair.clone();
     let ([place, size], [leaf, root], [other, _]) = (one.numbers, &one.hashes, &two.hashes);
@@ -103,24 +104,32 @@ fn compare([one, two]: [&Proof; 2], pair: usize, tally: &mut Tally, random: &mut
     tally.count("mta_compare", expected, found, is_read_right && is_written_right, || {
         format!("{:?} with {}, {}, pair of {}", one.words(), show(other), show(&two.path), pair.len())
     });
+    expected
 }
 
-/// A carrying, then with faults, and in rooms next to the path's length and to the pair's.
+/// A path that is carried, then with faults, without a place, and in rooms next to the path's length and to the pair's.
 fn carry_and_damaged(one: &Carry, tally: &mut Tally, random: &mut Random) {
     for other in [vec![one.clone()], one.damaged(random)].concat() {
         carry(&other, tally, random);
     }
+    for place in [one.old.numbers[1], u64::MAX] {
+        assert_eq!(carry(&one.with(|c| c.old.numbers[0] = place), tally, random), 6);
+    }
     for lent in [0, 1, one.lent.saturating_sub(32), one.lent.saturating_sub(1), one.lent, one.lent + 1, one.lent + 32] {
         for pair in [0, PAIR - 1, PAIR, PAIR + 1] {
-            carry(&one.with(|c| (c.lent, c.pair) = (lent, pair)), tally, random);
+            let number = carry(&one.with(|c| (c.lent, c.pair) = (lent, pair)), tally, random);
+            assert_eq!(number, if lent < one.lent || pair < PAIR { 9 } else { 0 });
         }
     }
 }
 
-/// A proof with itself, and with faults in the first, in the second and in both.
+/// A proof that is accepted with itself, without a place, and with faults in the first, in the second and in both.
 fn compare_and_damaged(proof: &Proof, tally: &mut Tally, random: &mut Random) {
     for pair in [0, 1, 65, PAIR - 1, PAIR, PAIR + 1, 2 * PAIR] {
-        compare([proof, proof], pair, tally, random);
+        assert_eq!(compare([proof, proof], pair, tally, random), if pair < PAIR { 9 } else { 0 });
+    }
+    for place in [proof.numbers[1], u64::MAX] {
+        assert_eq!(compare([&proof.with(|p| p.numbers[0] = place), proof], PAIR, tally, random), 6);
     }
     let all = [damaged(proof, random), damaged_nodes(proof, random), damaged_lengths(proof, random)].concat();
     for other in &all {
@@ -152,22 +161,34 @@ pub fn edges(tally: &mut Tally, random: &mut Random) {
             }
         }
     }
-    const HALF: u64 = MOST_LEAVES / 2;
+    // To 2^32 and past it, then to the middle and to the end of the numbers.
+    const PAST: u64 = (1 << 32) + 1;
+    const HALF: u64 = 1 << 63;
+    const LAST: u64 = LARGEST_SIZE;
+    let mut longest = (0, 0);
     for (place, first, second) in [
-        (0, 1, MOST_LEAVES),
-        (2, 3, MOST_LEAVES - 1),
-        (0, HALF - 1, MOST_LEAVES),
-        (5, HALF, MOST_LEAVES),
-        (HALF, HALF + 1, MOST_LEAVES),
-        (0, MOST_LEAVES - 1, MOST_LEAVES),
-        (MOST_LEAVES - 2, MOST_LEAVES - 1, MOST_LEAVES),
-        (MOST_LEAVES - 1, MOST_LEAVES, MOST_LEAVES),
-        (7, MOST_LEAVES, MOST_LEAVES + 1),
-        (MOST_LEAVES, MOST_LEAVES + 1, MOST_LEAVES + 1),
+        (0, PAST - 2, PAST - 1),
+        (PAST - 2, PAST - 1, PAST),
+        (PAST - 1, PAST, PAST),
+        (PAST - 1, PAST, HALF),
+        (0, HALF - 1, HALF),
+        (HALF - 2, HALF - 1, LAST - 1),
+        (5, HALF, HALF + 1),
+        (HALF - 1, HALF, LAST),
+        (HALF, HALF + 1, LAST),
+        (0, 1, LAST),
+        (2, 3, LAST),
+        (LAST / 3, LAST - 1, LAST),
+        (LAST - 2, LAST - 1, LAST),
+        (0, LAST, LAST),
+        (LAST - 1, LAST, LAST),
     ] {
-        carry_and_damaged(&Carry::made(place, first, second, random), tally, random);
+        let one = Carry::made(place, first, second, random);
+        carry_and_damaged(&one, tally, random);
         compare_and_damaged(&made_inclusion(place, first, random), tally, random);
+        longest = (longest.0.max(one.lent), longest.1.max(one.step.path.len()));
     }
+    assert_eq!(longest, (32 * 64, 32 * 65));
     let (one, proof) = (Carry::made(2, 5, 9, random), made_inclusion(2, 5, random));
     for large in [&[0][..], &LARGE].concat() {
         carry(&one.with(|c| c.old.numbers[0] = large), tally, random);

@@ -97,7 +97,7 @@ pub fn edges(tally: &mut Tally, random: &mut Random) {
     }
 
     for log_id in [0, 1, 2, 3, 126, 127, 128, 129, 255, 256, 300] {
-        for path in [0, 1, 31, 32, 33, 64, 96, 32 * 33] {
+        for path in [0, 1, 31, 32, 33, 64, 96, 32 * 65] {
             let fields = Fields { log_id: random.bytes(log_id), path: random.bytes(path), size: random.draw(), ..Fields::default() };
             write_in_rooms(&fields, tally, random);
         }

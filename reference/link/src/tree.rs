@@ -2,15 +2,18 @@
 
 use crate::compare::{show, Lent, Tally};
 use mta::{mta_consistency, mta_inclusion, mta_root};
-use reference::proofs::{random_consistency, random_inclusion, Proof};
+use reference::proofs::{
+    damaged, damaged_lengths, damaged_nodes, judged, made_consistency, made_inclusion, next_to_powers, random_consistency,
+    random_inclusion, some_places, Proof, LARGE,
+};
 use reference::random::Random;
 use reference::sha256::digest;
 use reference::tree::{build_root, MOST_LEAVES};
 use std::ffi::{c_int, c_void};
 
 /// The number must be the recursive definition's, and what is accepted that of
-/// RFC 9162's bottom-up algorithms.
-fn verdict(proof: &Proof, tally: &mut Tally, random: &mut Random) {
+/// RFC 9162's bottom-up algorithms. It is told.
+fn verdict(proof: &Proof, tally: &mut Tally, random: &mut Random) -> u64 {
     let expected = proof.number();
     let ([one, two], [first, second], path) = (proof.numbers, &proof.hashes, &proof.path);
     let [mut a, mut b, mut c] = [first, second, path].map(|bytes| Lent::new(bytes, random));
@@ -24,6 +27,34 @@ fn verdict(proof: &Proof, tally: &mut Tally, random: &mut Random) {
     let entry = if proof.is_inclusion { "mta_inclusion" } else { "mta_consistency" };
     let is_memory_right = a.holds(first) && b.holds(second) && c.holds(path);
     tally.count(entry, expected, found, is_memory_right, || format!("{:?}", proof.words()));
+    expected
+}
+
+/// Sizes next to every power of two, up to 2^64 - 1: what is accepted and what is
+/// refused at all kinds of places; then every fault of some.
+fn verdict_edges(tally: &mut Tally, random: &mut Random) {
+    let mut longest = [0; 2];
+    for size in next_to_powers(1) {
+        let places = if size > 1 { some_places(size, random) } else { (0..size).collect() };
+        for place in places {
+            for proof in [made_inclusion(place, size, random), made_consistency(place + 1, size, random)] {
+                for (number, one) in judged(&proof) {
+                    assert_eq!(verdict(&one, tally, random), number);
+                }
+                let longest = &mut longest[proof.is_inclusion as usize];
+                *longest = proof.path.len().max(*longest);
+            }
+        }
+    }
+    assert_eq!(longest, [32 * 65, 32 * 64]);
+    for size in LARGE {
+        for proof in [made_inclusion(size / 3, size, random), made_consistency(size / 3, size, random)] {
+            let all = [damaged(&proof, random), damaged_nodes(&proof, random), damaged_lengths(&proof, random)].concat();
+            for one in &all {
+                verdict(one, tally, random);
+            }
+        }
+    }
 }
 
 fn root(leaves: &[u8], out: &[u8], tally: &mut Tally, random: &mut Random) {
@@ -58,6 +89,7 @@ fn too_many_leaves(tally: &mut Tally, random: &mut Random) {
 }
 
 pub fn edges(tally: &mut Tally, random: &mut Random) {
+    verdict_edges(tally, random);
     for count in 0..=140 {
         let leaves = random.bytes(32 * count);
         for out in [32, 33, 100] {

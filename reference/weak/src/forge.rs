@@ -4,11 +4,15 @@ use crate::code::{Step, Two};
 use crate::given::weak;
 use reference::auditor::{join_head, Dispute, PageCall};
 use reference::carry::{carry, consistency_places, full_subtree, inclusion_places, Carried, Known, PAIR};
+use reference::proofs::near_power;
 use reference::random::Random;
-use reference::servers::spoil;
-use reference::tree::{self, leaf_hash, Hash, MOST_LEAVES};
+use reference::servers::{spoil, Log};
+use reference::tree::{self, leaf_hash, Hash, LARGEST_SIZE};
 use reference::verdict::Inclusion;
 use reference::yields;
+
+/// The bytes of the longest inclusion path.
+pub const LONGEST: usize = 32 * 64;
 
 /// A node need not be a value of the hash.
 pub fn any_node(random: &mut Random) -> Hash {
@@ -25,13 +29,17 @@ pub fn any_nodes(count: usize, random: &mut Random) -> Vec<Hash> {
 /// Mostly a small tree, at times one of any depth.
 fn some_size(random: &mut Random) -> u64 {
     match random.below(12) {
-        0..=9 => random.between(1, 40),
-        10 => {
-            let bits = random.between(6, 32);
-            random.between(1, 1 << bits)
-        }
-        _ => MOST_LEAVES - random.below(3),
+        0..=8 => random.between(1, 40),
+        9 => any_size(random),
+        10 => near_power(random).max(1),
+        _ => LARGEST_SIZE - random.below(3),
     }
+}
+
+/// Of any count of bits.
+fn any_size(random: &mut Random) -> u64 {
+    let most = LARGEST_SIZE >> random.below(64);
+    random.between(1, most)
 }
 
 fn some_place(size: u64, random: &mut Random) -> u64 {
@@ -77,6 +85,10 @@ fn other_proof(leaf: &Hash, path: &[Hash], place: u64, size: u64, root: &Hash, r
 pub fn two(random: &mut Random) -> Two {
     let size = some_size(random);
     let place = some_place(size, random);
+    two_at(place, size, random)
+}
+
+pub fn two_at(place: u64, size: u64, random: &mut Random) -> Two {
     let (leaf, path) = (any_node(random), any_nodes(yields::inclusion_count(place, size), random));
     let root = yields::inclusion(weak, &leaf, place, size, &path).unwrap();
     let found = if random.one_in(6) { None } else { other_proof(&leaf, &path, place, size, &root, random) };
@@ -98,6 +110,10 @@ pub fn step(random: &mut Random) -> Step {
     let second = some_size(random);
     let first = some_first(second, random);
     let place = some_place(first, random);
+    step_at(place, first, second, random)
+}
+
+pub fn step_at(place: u64, first: u64, second: u64, random: &mut Random) -> Step {
     let inclusion = |leaf: &Hash, path: &[Hash]| yields::inclusion(weak, leaf, place, first, path).unwrap();
     let (mut leaf, mut path) = (any_node(random), any_nodes(yields::inclusion_count(place, first), random));
     let nodes = any_nodes(yields::consistency_count(first, second), random);
@@ -173,7 +189,7 @@ fn carried(one: &Dispute, heads: &[(u64, Hash, Vec<Hash>)]) -> Option<Vec<u8>> {
     let (mut size, mut root, mut path) = (one.size, one.root.clone(), one.first.path.clone());
     for (new_size, new_root, nodes) in heads {
         let old = Inclusion { leaf: &leaf, place: one.first.place, size, root: &root, path: &path };
-        let mut lent = [0; 1024];
+        let mut lent = [0; LONGEST];
         let Ok(Carried::Path(length)) = carry(weak, &old, *new_size, new_root, &nodes.concat(), &mut lent, &mut [0; PAIR]) else {
             return None;
         };
@@ -182,9 +198,47 @@ fn carried(one: &Dispute, heads: &[(u64, Hash, Vec<Hash>)]) -> Option<Vec<u8>> {
     Some(path)
 }
 
-/// A list of leaves, heads of which those from one on are forged, and a second page that is the
-/// same, is another of one leaf hash, or has another proof.
+/// What the heads of a dispute are of: any leaves, or a log of any size.
+enum List {
+    Leaves(Vec<Hash>),
+    Log(Log),
+}
+
+impl List {
+    fn root(&self, size: u64) -> Hash {
+        match self {
+            List::Leaves(leaves) => tree::root(weak, &leaves[..size as usize]),
+            List::Log(log) => log.root(size),
+        }
+    }
+
+    fn path(&self, place: u64, size: u64) -> Vec<u8> {
+        match self {
+            List::Leaves(leaves) => tree::path(weak, place as usize, &leaves[..size as usize]).concat(),
+            List::Log(log) => log.path(place, size),
+        }
+    }
+
+    fn consistency_path(&self, first: u64, second: u64) -> Vec<Hash> {
+        match self {
+            List::Leaves(leaves) => tree::consistency_path(weak, first as usize, &leaves[..second as usize]),
+            List::Log(log) => tree::hashes(&log.consistency_path(first, second)).unwrap(),
+        }
+    }
+}
+
+/// Heads of which those from one on are forged, and a second page that is the same, is another of
+/// one leaf hash, or has another proof.
 pub fn dispute(random: &mut Random) -> Dispute {
+    if random.one_in(6) {
+        let most = if random.one_in(2) { LARGEST_SIZE } else { any_size(random) };
+        let log = Log::random(weak, most, random);
+        let sizes = log.sizes.clone();
+        // A page that the first head has.
+        let (place, page) = log.pages.range(..sizes[0]).next_back().unwrap();
+        let (place, page) = (*place, page.clone());
+        return dispute_of(List::Log(log), &sizes, place, page, random);
+    }
     let count = random.between(1, 40);
     let mut sizes: Vec<u64> = (0..=random.below(6)).map(|_| random.between(1, count)).collect();
     sizes.sort();
@@ -192,17 +246,20 @@ pub fn dispute(random: &mut Random) -> Dispute {
     let page = some_page(random);
     let mut leaves = any_nodes(count as usize, random);
     leaves[place as usize] = leaf_hash(weak, &page);
-    let list = |size: u64| &leaves[..size as usize];
-    let path = tree::path(weak, place as usize, list(sizes[0]));
-    let mut root = tree::root(weak, list(sizes[0]));
+    dispute_of(List::Leaves(leaves), &sizes, place, page, random)
+}
 
+fn dispute_of(list: List, sizes: &[u64], place: u64, page: Vec<u8>, random: &mut Random) -> Dispute {
+    let path = list.path(place, sizes[0]);
+    let first_root = list.root(sizes[0]);
+    let mut root = first_root;
     let forged_from = random.below(2 * sizes.len() as u64) as usize;
     let mut heads = Vec::new();
     for at in 1..sizes.len() {
         let (first, second) = (sizes[at - 1], sizes[at]);
-        let mut nodes = tree::consistency_path(weak, first as usize, list(second));
+        let mut nodes = list.consistency_path(first, second);
         if at < forged_from {
-            root = tree::root(weak, list(second));
+            root = list.root(second);
         } else {
             (nodes, root) = forged_head(first, second, &root, &nodes, random);
         }
@@ -210,9 +267,8 @@ pub fn dispute(random: &mut Random) -> Dispute {
     }
     let mut joined = Vec::new();
     heads.iter().for_each(|(size, root, nodes)| join_head(*size, root, &nodes.concat(), &mut joined));
-    let first = PageCall { place, page: page.clone(), path: path.concat() };
-    let root_one = tree::root(weak, list(sizes[0])).to_vec();
-    let mut one = Dispute { first, size: sizes[0], root: root_one, heads: joined, second_page: page, second_path: path.concat() };
+    let first = PageCall { place, page: page.clone(), path: path.clone() };
+    let mut one = Dispute { first, size: sizes[0], root: first_root.to_vec(), heads: joined, second_page: page, second_path: path };
     one.second_path = carried(&one, &heads).unwrap_or(one.second_path);
     second_page(&mut one, *sizes.last().unwrap(), &root, random);
     one
@@ -248,10 +304,11 @@ fn second_page(one: &mut Dispute, size: u64, root: &Hash, random: &mut Random) {
 // Faults, one or two at once: a length, a number, a byte.
 
 fn some_number(near: u64, random: &mut Random) -> u64 {
-    match random.below(5) {
+    match random.below(6) {
         0 => near.wrapping_add(1),
         1 => near.wrapping_sub(1),
-        2 => *random.pick(&[0, 1, MOST_LEAVES, MOST_LEAVES + 1, u64::MAX]),
+        2 => *random.pick(&[0, 1, 1 << 32, 1 << 63, LARGEST_SIZE - 1, LARGEST_SIZE]),
+        3 => near_power(random),
         _ => random.below(45),
     }
 }
@@ -303,11 +360,9 @@ pub fn fault_dispute(mut one: Dispute, random: &mut Random) -> Dispute {
             5 => fault(&mut one.first.page, random),
             6 => fault(&mut one.second_page, random),
             7 => fault(&mut one.heads, random),
-            8 if one.heads.len() >= 42 => {
-                // The count of nodes and the size of the first head.
-                let at = *random.pick(&[41, 41, 7]);
-                one.heads[at] = one.heads[at].wrapping_add(random.below(4) as u8).wrapping_sub(2);
-            }
+            // The size of the first head, and its count of nodes.
+            8 if one.heads.len() >= 42 && random.one_in(2) => one.heads[..8].copy_from_slice(&some_number(one.size, random).to_be_bytes()),
+            8 if one.heads.len() >= 42 => one.heads[41] = one.heads[41].wrapping_add(random.below(4) as u8).wrapping_sub(2),
             _ => one.heads.truncate(random.below(one.heads.len() as u64 + 1) as usize),
         }
     }

@@ -4,19 +4,20 @@ use crate::forge::{any_node, any_nodes, some_page};
 use crate::given::{keep, weak};
 use crate::hold::Hold;
 use crate::zeros::{zeros, MOST};
-use reference::growing::{of_list, Call, Growing, LEVELS};
+use reference::growing::{of_list, Call, Growing};
 use reference::item::LONGEST_ITEM;
+use reference::proofs::near_power;
 use reference::random::Random;
 use reference::servers::spoil;
-use reference::tree::{leaf_hash, Hash, MOST_LEAVES};
+use reference::tree::{leaf_hash, Hash, LARGEST_SIZE, MOST_LEAVES};
 
-/// Small, next to a power of two or to the limit, past all levels, or any.
+/// Small, next to a power of two, to the highest level's or to the limit, or any.
 fn some_count(random: &mut Random) -> u64 {
     match random.below(8) {
         0 | 1 => random.below(70),
-        2 | 3 => (1u64 << random.below(34)).wrapping_sub(2).wrapping_add(random.below(5)),
-        4 | 5 => MOST_LEAVES - 5 + random.below(8),
-        6 => *random.pick(&[(1 << LEVELS) - 1, 1 << LEVELS, u64::MAX << LEVELS, u64::MAX - 1, u64::MAX]),
+        2 | 3 => near_power(random),
+        4 | 5 => LARGEST_SIZE - random.below(6),
+        6 => (1 << 63) - random.below(4),
         _ => random.draw() >> random.below(64),
     }
 }
@@ -95,25 +96,30 @@ pub fn list_round(hold: &mut Hold, random: &mut Random) {
 pub fn limits(hold: &mut Hold, random: &mut Random) {
     keep(6);
     hold.new_tree();
-    let [top, full, past] = [MOST_LEAVES - 1, MOST_LEAVES, u64::MAX].map(|count| made_up(count, random));
-    for tree in [&Growing::NEW, &top, &full, &past] {
-        hold.add_page(tree, &zeros()[..LONGEST_ITEM + 1]);
-        for length in [0, 1, 31, 33, MOST + 32, MOST + 64] {
+    let [top, full] = [LARGEST_SIZE - 1, LARGEST_SIZE].map(|count| made_up(count, random));
+    for tree in [&Growing::NEW, &top, &full] {
+        for length in [1, LONGEST_ITEM + 1] {
+            hold.add_page(tree, &zeros()[..length]);
+        }
+        for length in [0, 1, 31, 32, 33, 64, MOST + 32, MOST + 64] {
             hold.add_leaves(tree, &zeros()[..length]);
         }
     }
     // A new tree has room for these: a wrong one could read them all.
-    for tree in [&top, &full, &past] {
+    for tree in [&top, &full] {
         for length in [MOST - 1, MOST, MOST + 1] {
             hold.add_leaves(tree, &zeros()[..length]);
         }
     }
 }
 
-/// The longest page, where it is taken and where there is no room.
-pub fn longest_page(hold: &mut Hold, random: &mut Random) {
+/// The longest page, where it is taken and where there is no room; and 2^32 joined hashes and more, where there is room for one fewer.
+pub fn longest(hold: &mut Hold, random: &mut Random) {
     keep(6);
-    for tree in [Growing::NEW, made_up(MOST_LEAVES - 1, random), made_up(MOST_LEAVES, random)] {
+    for tree in [Growing::NEW, made_up(LARGEST_SIZE - 1, random), made_up(LARGEST_SIZE, random)] {
         hold.add_page(&tree, &zeros()[..LONGEST_ITEM]);
+    }
+    for length in [MOST, MOST + 32] {
+        hold.add_leaves(&made_up(LARGEST_SIZE - MOST_LEAVES + 1, random), &zeros()[..length]);
     }
 }

@@ -2,13 +2,15 @@
 //! the same. What kind of call it was is counted by the reference's answer.
 
 use crate::code::{Code, Step, Two, Wrote};
+use crate::forge::LONGEST;
 use crate::given::weak;
 use reference::auditor::{self, Dispute, Offer, PageCall, Settled, Stored};
 use reference::carry::{self, consistency_places, full_subtree, inclusion_places, parts, Carried, Compared, Known, Leaves, PAIR};
 use reference::growing::{self, Call, Growing, Grown, LEVELS};
 use reference::item::LONGEST_ITEM;
+use reference::proofs::near_power;
 use reference::random::Random;
-use reference::tree::{self, hashes, leaf_hash, Hash, MOST_LEAVES};
+use reference::tree::{self, hashes, leaf_hash, Hash, LARGEST_SIZE, MOST_LEAVES};
 use reference::verdict::{self, Consistency, Inclusion};
 use reference::yields;
 use std::cell::Cell;
@@ -93,11 +95,12 @@ impl Debug for Short<'_> {
 
 /// How far up the leaf goes that merges most, of so many more.
 fn levels_up(count: u64, more: u64) -> &'static str {
+    const HIGHEST: u32 = LEVELS as u32 - 1;
     match (count..count + more).map(u64::trailing_ones).max() {
         None => "no leaf",
         Some(0) => "no level up",
         Some(1) => "one level up",
-        Some(32) => "all levels up",
+        Some(HIGHEST) => "all levels up",
         Some(_) => "several levels up",
     }
 }
@@ -169,6 +172,12 @@ impl<'a> Hold<'a> {
             _ => "S has full subtrees behind it",
         };
         self.kind("carrying", format!("a path, {what}"));
+        if length == LONGEST {
+            self.kind("carrying", format!("a path of 64 nodes, its buffer {}", room(lent, length)));
+        }
+        if one.proof.len() == LONGEST + 32 {
+            self.kind("carrying", "a path, by a consistency path of 65 nodes");
+        }
     }
 
     fn carry_levels(one: &Step) -> (Levels, bool) {
@@ -204,6 +213,9 @@ impl<'a> Hold<'a> {
             self.kind("carrying", "a collision, two levels with an equal one between");
         }
         let length = 32 * yields::inclusion_count(one.place, one.second);
+        if length == LONGEST {
+            self.kind("carrying", "a collision over 64 nodes");
+        }
         self.kind("carrying", format!("a collision, path buffer {}", room(lent, length)));
         self.kind("carrying", format!("a collision, pair buffer {}", room(pair, PAIR)));
     }
@@ -216,8 +228,11 @@ impl<'a> Hold<'a> {
         if number != 9 {
             return self.kind("carrying", format!("refused with {number} for the consistency proof"));
         }
-        let is_long = lent >= 32 * yields::inclusion_count(one.place, one.second);
-        let what = match (is_long, pair >= PAIR) {
+        let length = 32 * yields::inclusion_count(one.place, one.second);
+        if (lent, length) == (LONGEST - 1, LONGEST) {
+            self.kind("carrying", "refused with 9 for a byte that 64 nodes lack");
+        }
+        let what = match (lent >= length, pair >= PAIR) {
             (false, false) => "both buffers",
             (false, true) => "the path buffer",
             _ => "the pair buffer",
@@ -243,7 +258,7 @@ impl<'a> Hold<'a> {
         match &answer {
             Ok(Compared::Same) => {
                 assert_eq!(after, pair);
-                self.kind("comparing", "the same");
+                self.kind("comparing", if path.len() == LONGEST { "the same, over 64 nodes" } else { "the same" });
             }
             Ok(Compared::Collision) => {
                 assert_eq!(after[PAIR..], pair[PAIR..]);
@@ -283,6 +298,9 @@ impl<'a> Hold<'a> {
         }
         if levels.count() > 1 && levels.0[at..].windows(2).any(|two| !two[0] && two[1]) {
             self.kind("comparing", "a collision, two levels with an equal one between");
+        }
+        if levels.0.len() == 64 {
+            self.kind("comparing", "a collision over 64 nodes");
         }
         self.kind("comparing", format!("a collision, pair buffer {}", room(pair, PAIR)));
     }
@@ -342,7 +360,7 @@ impl<'a> Hold<'a> {
         }
         let (heads, is_cut) = heads_of(&one.heads);
         for (at, (new_size, new_root, step)) in heads.iter().enumerate() {
-            let mut lent = [0; 1024];
+            let mut lent = [0; LONGEST];
             let old = Inclusion { leaf: &leaf, place, size, root: &root, path: &path };
             match carry::carry(weak, &old, *new_size, new_root, step, &mut lent, &mut vec![0; pair]) {
                 Err(number) => return refused(number, "a head"),
@@ -358,7 +376,7 @@ impl<'a> Hold<'a> {
             }
             (size, root) = (*new_size, new_root.clone());
         }
-        let is_longest = !heads.is_empty() && path.len() == 1024;
+        let is_longest = !heads.is_empty() && path.len() == LONGEST;
         if is_cut {
             return refused(2, if heads.is_empty() { "the first head" } else { "a later head" });
         }
@@ -370,18 +388,26 @@ impl<'a> Hold<'a> {
             Settled::Refused(number) => refused(number, "the comparison"),
         };
         if is_longest {
-            ends.push("a carried path of 32 nodes".to_string());
+            ends.push("a carried path of 64 nodes".to_string());
         }
         ends
     }
 
     // The tree.
 
+    /// The numbers that a smaller limit would exchange are kinds of their own at the largest size.
+    fn verdict(&mut self, entry: &str, number: u64, size: u64) {
+        self.kind(entry, number.to_string());
+        if size == LARGEST_SIZE && (number == 0 || number == 6) {
+            self.kind(entry, format!("{number} at the largest size"));
+        }
+    }
+
     pub fn inclusion(&mut self, leaf: &[u8], place: u64, size: u64, root: &[u8], path: &[u8]) {
         let number = verdict::inclusion(weak, &Inclusion { leaf, place, size, root, path });
         let code = self.code;
         let found = tried(|| code.inclusion_verdict(leaf, place, size, root, path));
-        self.kind("inclusion verdict", number.to_string());
+        self.verdict("inclusion verdict", number, size);
         self.same("inclusion verdict", number, found, (leaf, place, size, root, path));
         if let (Ok(leaf), Some(nodes)) = (<&Hash>::try_from(leaf), hashes(path)) {
             if number == 0 || number == 8 {
@@ -397,7 +423,7 @@ impl<'a> Hold<'a> {
         let number = verdict::consistency(weak, &proof);
         let code = self.code;
         let found = tried(|| code.consistency_verdict(first, second, old, new, path));
-        self.kind("consistency verdict", number.to_string());
+        self.verdict("consistency verdict", number, second);
         self.same("consistency verdict", number, found, (first, second, old, new, path));
         if let (Ok(old), Some(nodes)) = (<&Hash>::try_from(old), hashes(path)) {
             if (number == 0 || number == 8) && first < second {
@@ -495,7 +521,7 @@ impl<'a> Hold<'a> {
             out
         });
         self.same("copy", after, found, (joined, start, length, out, to));
-        let n = (random.draw() >> random.below(63)).max(2);
+        let n = if random.one_in(2) { near_power(random) } else { random.draw() >> random.below(64) }.max(2);
         self.same("cut", tree::split(n), tried(|| code.cut(n)), n);
         for other in [random.draw() >> random.below(64), n - 1, n, 0] {
             self.counts(other, n);
@@ -533,14 +559,16 @@ impl<'a> Hold<'a> {
         found: Option<(u64, Growing)>,
     ) -> Growing {
         assert!(number == 0 || after == *tree, "a refusal changes no tree");
-        let has_room = tree.count.checked_add(more).is_some_and(|sum| sum <= MOST_LEAVES);
+        let left = LARGEST_SIZE - tree.count;
+        let before = if more > left { " before 6" } else { "" };
         let what = match number {
-            0 if more == 0 && tree.count == MOST_LEAVES => "no leaf taken by a full tree".to_string(),
+            0 if more == 0 && left == 0 => "no leaf taken by a full tree".to_string(),
+            0 if more > 0 && more == left => "taken, the last leaf".to_string(),
             0 => format!("taken, {}", levels_up(tree.count, more)),
-            6 if more == 0 => "refused with 6 for no leaf".to_string(),
-            10 if more > MOST_LEAVES && given.len() % 32 == 0 => "refused with 10 for more than 2^32 hashes".to_string(),
-            1 | 10 if !has_room => format!("refused with {number} before 6"),
-            _ => format!("refused with {number}"),
+            6 if more - left == 1 => "refused with 6 for one leaf too many".to_string(),
+            6 => "refused with 6 for several leaves too many".to_string(),
+            10 if more > MOST_LEAVES && given.len() % 32 == 0 => format!("refused with 10 for more than 2^32 hashes{before}"),
+            _ => format!("refused with {number}{before}"),
         };
         self.kind(entry, what);
         // The counts first: what is shown is cut.
@@ -553,7 +581,6 @@ impl<'a> Hold<'a> {
     pub fn growing_root(&mut self, tree: &Growing, out: &[u8]) {
         let counting = (0..LEVELS).filter(|level| tree.count >> level & 1 == 1).count();
         let what = match counting {
-            0 if tree.count > 0 => "of no hash that counts",
             0 => "of no leaf",
             1 => "of one hash",
             2 => "of two hashes",
@@ -612,7 +639,11 @@ impl<'a> Hold<'a> {
         assert!(number == 0 || after == *record, "a refusal changes no record");
         let code = self.code;
         let found = tried(|| code.offer(record, one));
-        self.kind("offer", format!("{number} where {} is held", if record.held { "a head" } else { "no head" }));
+        let held = if record.held { "a head" } else { "no head" };
+        self.kind("offer", format!("{number} where {held} is held"));
+        if one.size == LARGEST_SIZE && number == 0 {
+            self.kind("offer", format!("0 at the largest size, where {held} is held"));
+        }
         self.same("offer", (number, after.clone()), found, (record, one));
         (number, after)
     }
@@ -621,7 +652,7 @@ impl<'a> Hold<'a> {
         let number = record.page(weak, one);
         let code = self.code;
         let found = tried(|| code.ask(record, one));
-        self.kind("page", number.to_string());
+        self.verdict("page", number, record.size);
         self.same("page", (number, record.clone()), found, (record, one.place, one.page.len(), &one.path));
         number
     }

@@ -22,8 +22,10 @@ use hold::Hold;
 use reference::auditor::{disputes, Call, Dispute, Offer, PageCall, Stored};
 use reference::carry::PAIR;
 use reference::item::LONGEST_ITEM;
+use reference::proofs::next_to_powers;
 use reference::random::Random;
 use reference::servers::{spoil, Server, KINDS};
+use reference::tree::LARGEST_SIZE;
 use reference::yields;
 use std::path::Path;
 use zeros::{zeros, MOST};
@@ -61,7 +63,7 @@ fn carry_round(hold: &mut Hold, random: &mut Random) {
     if random.one_in(5) {
         one = forge::fault_step(one, random);
     }
-    let needed = if one.place < one.second && one.second <= 1 << 32 { 32 * yields::inclusion_count(one.place, one.second) } else { 64 };
+    let needed = 32 * yields::inclusion_count(one.place, one.second);
     hold.carry(&one, &some_out(needed, random), &some_pair(random));
     hold.inclusion(&one.leaf, one.place, one.first, &one.old, &one.path);
     hold.consistency(one.first, one.second, &one.old, &one.new, &one.proof);
@@ -100,7 +102,7 @@ fn tree_round(hold: &mut Hold, random: &mut Random) {
 
 /// A list of calls to one auditor, and the dispute of every two accepted pages at one place.
 fn list_round(hold: &mut Hold, random: &mut Random) {
-    let (kind, most) = (*random.pick(&KINDS), 1 << *random.pick(&[3, 4, 5, 6, 6, 32]));
+    let (kind, most) = (*random.pick(&KINDS), *random.pick(&[8, 16, 32, 64, 64, LARGEST_SIZE]));
     let calls = Server::random(given::weak, kind, most, random).calls(30, 20, random);
     hold.empty();
     let mut record = Stored::EMPTY;
@@ -188,8 +190,8 @@ fn record_round(hold: &mut Hold, random: &mut Random) {
         0 => spoil(&mut offer.root, random),
         1 => spoil(&mut offer.path, random),
         2 => offer.path.clear(),
-        3 => offer.size = *random.pick(&[0, record.size, record.size.wrapping_sub(1), 1 << 32, (1 << 32) + 1]),
-        4 => record.size = *random.pick(&[0, 1, offer.size, (1 << 32) + 1]),
+        3 => offer.size = *random.pick(&[0, record.size, record.size.wrapping_sub(1), 1 << 32, LARGEST_SIZE]),
+        4 => record.size = *random.pick(&[0, 1, offer.size, 1 << 32, LARGEST_SIZE - 1, LARGEST_SIZE]),
         5 => (offer.size, offer.path) = (record.size, vec![]),
         6 => (offer.size, offer.path, offer.root) = (record.size, vec![], record.root.to_vec()),
         _ => (),
@@ -197,6 +199,29 @@ fn record_round(hold: &mut Hold, random: &mut Random) {
     hold.offer(&record, &offer);
     let page = PageCall { place: one.place, page: random.bytes(1), path: one.path };
     hold.ask(&record, &page);
+}
+
+/// One size: of each verdict what is accepted and no place, of carrying a path's room and a byte fewer, and a head of that size
+/// as the first and as a later one.
+fn size_round(hold: &mut Hold, size: u64, random: &mut Random) {
+    for place in [0, size - 1, random.below(size)] {
+        hold.compare(&forge::two_at(place, size, random), &random.bytes(PAIR));
+        let one = forge::step_at(place, random.between(place + 1, size), size, random);
+        let count = yields::inclusion_count(place, size);
+        for room in [32 * count, (32 * count).saturating_sub(1)] {
+            hold.carry(&one, &random.bytes(room), &random.bytes(PAIR));
+        }
+        hold.consistency(one.first, size, &one.old, &one.new, &one.proof);
+        let (leaf, path) = (forge::any_node(random), forge::any_nodes(count, random));
+        let root = yields::inclusion(given::weak, &leaf, place, size, &path).unwrap();
+        for place in [place, size, u64::MAX] {
+            hold.inclusion(&leaf, place, size, &root, &path.concat());
+        }
+        let held = Stored { held: true, size: one.first, root: one.old[..].try_into().unwrap(), id_length: 2, ..Stored::EMPTY };
+        let offer = |path: &[u8]| Offer { log_id: vec![0; 2], timestamp: 1, size, root: one.new.clone(), path: path.to_vec() };
+        hold.offer(&held, &offer(&one.proof));
+        hold.offer(&Stored::EMPTY, &offer(&[]));
+    }
 }
 
 /// Pages at the limit and over it, once.
@@ -233,9 +258,18 @@ fn rounds(code: &dyn Code, seed: u64, count: u64, is_sought: bool) -> Hold<'_> {
     let random = &mut Random::new(seed);
     let mut hold = Hold::new(code);
     most_leaves(&mut hold);
+    // A wrong program that joins more would read them all.
+    if is_sought && hold.failed > 0 {
+        return hold;
+    }
     growing::limits(&mut hold, random);
+    // Next to every power of two, from the largest on.
+    let mut sizes: Vec<u64> = next_to_powers(1).into_iter().filter(|size| *size > 0).collect();
     for turn in 0..count {
         given::keep(BITS[turn as usize % BITS.len()]);
+        if let Some(size) = sizes.pop() {
+            size_round(&mut hold, size, random);
+        }
         compare_round(&mut hold, random);
         carry_round(&mut hold, random);
         dispute_round(&mut hold, random);
@@ -256,7 +290,7 @@ fn rounds(code: &dyn Code, seed: u64, count: u64, is_sought: bool) -> Hold<'_> {
     }
     if !is_sought {
         long_pages(&mut hold, random);
-        growing::longest_page(&mut hold, random);
+        growing::longest(&mut hold, random);
     }
     hold
 }
@@ -310,7 +344,7 @@ fn main() {
         tally.count(COMPARED.contains(name), || format!("public, and not compared: {name}"));
     }
     translation(&mut tally);
-    let is_full = WANTED.lines().count() > 155 && variants::CODES.len() > 25;
+    let is_full = WANTED.lines().count() > 175 && variants::CODES.len() > 40;
     tally.count(is_full, || "kinds or wrong programs are gone".to_string());
 
     let hold = rounds(variants::CODES[0].1, seed, count, false);

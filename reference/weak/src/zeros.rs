@@ -11,7 +11,7 @@ extern "C" {
     fn mmap(at: *mut c_void, length: usize, protection: c_int, flags: c_int, file: c_int, offset: i64) -> *mut c_void;
 }
 
-/// Two hashes more than a tree has leaves.
+/// Two hashes more than may be joined.
 pub fn zeros() -> &'static [u8] {
     static ZEROS: OnceLock<&[u8]> = OnceLock::new();
     ZEROS.get_or_init(|| {
