@@ -1,4 +1,4 @@
--- What is claimed of the definitions, over any hash H: proved in proofs/Counting, Building, Accepting and Full, and promised in the source by `claims`.
+-- What is claimed of the definitions, over any hash H: proved in proofs/Counting, Digits, Building, Accepting and Full, promised in the source by `claims`.
 -- Assumes nothing: these are statements.
 use mathlib.Core.Path.{_≡_}
 use mathlib.Core.Logic.{_↔_}
