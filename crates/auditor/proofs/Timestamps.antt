@@ -1,12 +1,12 @@
 -- The stricter test for 12, and the head held offered again. Assumes nothing.
 use mathlib.Core.Path.{_≡_, refl, sym, ap, _∙_}
-use mathlib.Core.Bool.{Bool, true, false, cond, not, _&&_, _||_}
+use mathlib.Core.Bool.{Bool, cond, not, _&&_, _||_}
 use mathlib.Core.List.{List, [], _∷_}
 use Prim.Native.Nat.{ℕ, zero, suc, _%_, _≤_, _<_}
 use native.Mathlib.Omega.{arith}
 use lib.Dec.{ltb, eqb}
 use lib.ListN.{length}
-use borrow.Author.Tests.{ltb-false, eqb-true, eqb-false}
+use borrow.Author.Tests.{ltb-false, ne-eqb, eqb-false}
 use Rattle.hash.specs.Digest.{sha256}
 use Rattle.tree.specs.Limits.{largestSize}
 use Rattle.tree.specs.Joined.{same}
@@ -14,7 +14,7 @@ use Rattle.tree.specs.Verdict.{consistencyVerdict}
 use Rattle.tree.proofs.Answering.{count-7, sizes-in}
 use Rattle.tree.proofs.Accepting.{pass, consistency-accepted, equal}
 use Rattle.auditor.specs.Held.{Held, empty, head, none}
-use Rattle.auditor.specs.Offer.{outside, first, against, byRecord, offerNumber, kept, offered}
+use Rattle.auditor.specs.Offer.{outside, first, against, byRecord, kept, offered}
 use Rattle.auditor.specs.Calls.{offer, ask, Entry, answered, called, answers, number, after}
 use Rattle.auditor.specs.Claims.{lastHead}
 use Rattle.auditor.specs.Timestamps.{HeldAgain, older, OnlyStricter}
@@ -47,23 +47,14 @@ only-stricter H id₀ time₀ size₀ root₀ id time size root path = record {
 -- ---- the head held, offered again
 
 -- the verdict on equal sizes and roots
-nothing : (path : List ℕ) → length path ≡ 0 → path ≡ []
-nothing [] e = refl
-nothing (x ∷ path) e = absurd (omega arith)
-
 one-size : (H : List ℕ → List ℕ) (n : ℕ) (root path : List ℕ) → 0 < n → n ≤ largestSize → length root ≡ 32 → length path % 32 ≡ 0 →
     consistencyVerdict H n n root root path ≡ cond (eqb (length path) 0) 0 7
 unfolding consistencyVerdict
-one-size H n root path some most root-32 whole = go (eqb (length path) 0) refl
-  where
-    seven : (length path ≡ 0 → ⊥) → 7 ≡ consistencyVerdict H n n root root path
-    seven long =
-        let c = consistency-accepted H n n root root [] (equal H .sizes n root root [] some most root-32 .1 (refl, refl)) .counted in
-        count-7 root root path _ _ _ root-32 root-32 whole (sizes-in n n (λ e. omega arith) most (omega arith)) (λ e. long (omega arith))
-
-    go : (b : Bool) → eqb (length path) 0 ≡ b → consistencyVerdict H n n root root path ≡ cond b 0 7
-    go true e = equal H .sizes n root root path some most root-32 .1 (nothing path (eqb-true (length path) 0 e), refl)
-    go false e = sym (seven (eqb-false (length path) 0 e))
+one-size H n root [] some most root-32 whole = equal H .sizes n root root [] some most root-32 .1 (refl, refl)
+one-size H n root (x ∷ path) some most root-32 whole =
+    let c = consistency-accepted H n n root root [] (equal H .sizes n root root [] some most root-32 .1 (refl, refl)) .counted in
+    rw (ne-eqb (length (x ∷ path)) 0 (λ e. omega arith))
+    (sym (count-7 root root (x ∷ path) _ _ _ root-32 root-32 whole (sizes-in n n (λ e. omega arith) most (omega arith)) (λ e. omega arith)))
 
 -- nothing, or a head that passed the tests of its own
 Proper : Held → Type 0
