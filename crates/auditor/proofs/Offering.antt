@@ -114,27 +114,27 @@ pub record Taken (H : List ℕ → List ℕ) (id₀ : List ℕ) (time₀ size₀
   pub one-root : size₀ ≡ size → root₀ ≡ root
   pub consistent : consistencyVerdict H size₀ size root₀ root path ≡ 0
 
-pub by-tests : (H : List ℕ → List ℕ) (id₀ : List ℕ) (time₀ size₀ : ℕ) (root₀ id : List ℕ) (time size : ℕ) (root path : List ℕ) → against H id₀ time₀ size₀ root₀ id time size root path ≡ 0 → Taken H id₀ time₀ size₀ root₀ id time size root path
-unfolding against
-by-tests H id₀ time₀ size₀ root₀ id time size root path e =
-    let a = pass (not (same id₀ id)) 10 _ e in
-    let b = pass (outside size || ltb size size₀) 5 _ (a .1) in
-    let c = pass (stale time₀ size₀ root₀ time size root) 11 _ (b .1) in
-    let f = fresh time₀ size₀ root₀ time size root (c .0) in
-    let d = pass (eqb size size₀ && not (same root root₀)) 12 _ (c .1) in
-    record {
-      one-log = same-true _ _ (not-false _ (a .0));
-      no-smaller = ltb-false _ _ (or-false (outside size) (ltb size size₀) (b .0) .1);
-      no-earlier = f .0;
-      one-time = f .1;
-      one-root = λ q. sym (same-true _ _ (not-false _ (rw (eq-eqb size size₀ (sym q)) at (d .0))));
-      consistent = d .1;
-    }
+module _ (H : List ℕ → List ℕ) (id₀ : List ℕ) (time₀ size₀ : ℕ) (root₀ id : List ℕ) (time size : ℕ) (root path : List ℕ) where
+  pub by-tests : against H id₀ time₀ size₀ root₀ id time size root path ≡ 0 → Taken H id₀ time₀ size₀ root₀ id time size root path
+  unfolding against
+  by-tests e =
+      let a = pass (not (same id₀ id)) 10 _ e in
+      let b = pass (outside size || ltb size size₀) 5 _ (a .1) in
+      let c = pass (stale time₀ size₀ root₀ time size root) 11 _ (b .1) in
+      let d = pass (eqb size size₀ && not (same root root₀)) 12 _ (c .1) in
+      let f = fresh time₀ size₀ root₀ time size root (c .0) in
+      record {
+        one-log = same-true _ _ (not-false _ (a .0));
+        no-smaller = ltb-false _ _ (or-false (outside size) (ltb size size₀) (b .0) .1);
+        no-earlier = f .0;
+        one-time = f .1;
+        one-root = λ q. sym (same-true _ _ (not-false _ (rw (eq-eqb size size₀ (sym q)) at (d .0))));
+        consistent = d .1;
+      }
 
-pub taken : (H : List ℕ → List ℕ) (id₀ : List ℕ) (time₀ size₀ : ℕ) (root₀ id : List ℕ) (time size : ℕ) (root path : List ℕ) → offerNumber H (head id₀ time₀ size₀ root₀) id time size root path ≡ 0 → Taken H id₀ time₀ size₀ root₀ id time size root path
-unfolding byRecord
-taken H id₀ time₀ size₀ root₀ id time size root path e =
-    by-tests H id₀ time₀ size₀ root₀ id time size root path (passed H (head id₀ time₀ size₀ root₀) id time size root path e .by-record)
+  pub taken : offerNumber H (head id₀ time₀ size₀ root₀) id time size root path ≡ 0 → Taken H id₀ time₀ size₀ root₀ id time size root path
+  unfolding byRecord
+  taken e = by-tests (passed H (head id₀ time₀ size₀ root₀) id time size root path e .by-record)
 
 -- the answer of an offer with its number n
 module _ (r : Record) (id : List ℕ) (time size : ℕ) (root path : List ℕ) (n : ℕ) (e : n ≡ offerNumber sha256 (view r) id time size root path) where
