@@ -45,7 +45,7 @@ enum {
     MTA_ROOM = 9,        /* a lent output or working buffer is too short, or the schedule isn't 64 words */
     MTA_JOINED = 10,     /* joined hashes not a multiple of 32, or leaves over the limit */
     MTA_OTHER_LOG = 11,  /* other log; from here on numbers of the auditor, which no function below gives */
-    MTA_EARLIER = 12,    /* earlier timestamp */
+    MTA_EARLIER = 12,    /* earlier timestamp, or the same with another size or root */
     MTA_OTHER_ROOT = 13, /* same size, other root */
     MTA_NO_HEAD = 14     /* no head yet */
 };
@@ -66,7 +66,7 @@ static inline const char *mta_refusal(uint32_t number)
     case MTA_ROOM: return "a lent output or working buffer is too short, or the schedule isn't 64 words";
     case MTA_JOINED: return "joined hashes not a multiple of 32, or leaves over the limit";
     case MTA_OTHER_LOG: return "other log";
-    case MTA_EARLIER: return "earlier timestamp";
+    case MTA_EARLIER: return "earlier timestamp, or the same with another size or root";
     case MTA_OTHER_ROOT: return "same size, other root";
     case MTA_NO_HEAD: return "no head yet";
     default: return "no number of a refusal";

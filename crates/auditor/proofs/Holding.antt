@@ -1,13 +1,15 @@
 -- What an auditor's record holds over every list of calls: the code's answers are the paper's, and the record is the head that was accepted last, which
 -- never goes back. Assumes nothing.
 use mathlib.Core.Path.{_≡_, refl, sym, ap, ap₂, _∙_}
+use mathlib.Core.Bool.{Bool, true, false}
+use mathlib.Core.Logic.{_⊎_, inl, inr}
 use mathlib.Core.List.{List, [], _∷_, _++_, map}
 use Prim.Native.Nat.{ℕ, zero, suc, _^_, _≤_, _<_}
 use native.Mathlib.Omega.{arith}
-use lib.Dec.{ltb}
+use lib.Dec.{ltb, eqb}
 use lib.ListN.{length, drop, replicate}
 use lib.Seq.{take-at}
-use borrow.Author.Tests.{ltb-false}
+use borrow.Author.Tests.{ltb-false, eqb-true, eqb-false}
 use Rattle.hash.specs.Digest.{sha256}
 use Rattle.hash.specs.Answers.{mostItem}
 use Rattle.tree.specs.Limits.{largestSize}
@@ -21,6 +23,7 @@ use Rattle.auditor.specs.Offer.{offerNumber, kept, keptRecord, offered}
 use Rattle.auditor.specs.Page.{pageNumber, asked}
 use Rattle.auditor.specs.Heads.{Heads, then}
 use Rattle.auditor.specs.Calls.{Call, offer, ask, Entry, answered, called, answers, final, callOf, accepted, number, after, run, heads}
+use Rattle.auditor.specs.Timestamps.{OneTimestamp}
 use Rattle.auditor.specs.Claims.{lastHead, HeldIsAccepted, RefusedAddNothing, NeverBack}
 use Rattle.auditor.proofs.Offering.{taken}
 use Rattle.auditor.proofs.Reading.{Fits}
@@ -114,19 +117,29 @@ module _ (H : List ℕ → List ℕ) where
       let p = pass (ltb mostItem (length page)) 0 _ e in
       (ltb-false mostItem (length page) (p .0), p .1)
 
-  -- a record that holds a head of a log, of no smaller size and no earlier timestamp, and of the same root where it has the same size
+  -- a record that holds a head of a log, of no smaller size and no earlier timestamp, and the same head as far as the size or the timestamp is the same
   Since : List ℕ → ℕ → ℕ → List ℕ → Held → Type 0
   Since id time size root empty = ⊥
-  Since id time size root (head id₂ time₂ size₂ root₂) = (id ≡ id₂) × (size ≤ size₂) × (time ≤ time₂) × (size ≡ size₂ → root ≡ root₂)
+  Since id time size root (head id₂ time₂ size₂ root₂) =
+      (id ≡ id₂) × (size ≤ size₂) × (time ≤ time₂) × (size ≡ size₂ → root ≡ root₂) × (time ≡ time₂ → (size ≡ size₂) × (root ≡ root₂))
 
   module _ (id : List ℕ) (time size : ℕ) (root : List ℕ) where
-    since-offer : (held : Held) (id₂ : List ℕ) (time₂ size₂ : ℕ) (root₂ path₂ : List ℕ) → Since id time size root held → number H held (offer id₂ time₂ size₂ root₂ path₂) ≡ 0 → (id ≡ id₂) × (size ≤ size₂) × (time ≤ time₂) × (size ≡ size₂ → root ≡ root₂)
+    since-offer : (held : Held) (id₂ : List ℕ) (time₂ size₂ : ℕ) (root₂ path₂ : List ℕ) → Since id time size root held → number H held (offer id₂ time₂ size₂ root₂ path₂) ≡ 0 → Since id time size root (head id₂ time₂ size₂ root₂)
     unfolding Since number
     since-offer empty id₂ time₂ size₂ root₂ path₂ s e = absurd s
     since-offer (head id₁ time₁ size₁ root₁) id₂ time₂ size₂ root₂ path₂ s e =
         let t = taken H id₁ time₁ size₁ root₁ id₂ time₂ size₂ root₂ path₂ e in
         let a = t .no-smaller in
-        (s .0 ∙ t .one-log, omega arith, omega arith, λ q. s .3 (omega arith) ∙ t .one-root (omega arith))
+        let b = t .no-earlier in (
+          s .0 ∙ t .one-log,
+          omega arith,
+          omega arith,
+          λ q. s .3 (omega arith) ∙ t .one-root (omega arith),
+          λ q.
+              let u = s .4 (omega arith) in
+              let v = t .one-time (omega arith) in
+              (u .0 ∙ v .0, u .1 ∙ v .1),
+        )
 
     since : (es fs : List Entry) (held : Held) → Since id time size root held → Runs held (es ++ fs) → Since id time size root (lastHead held es)
     unfolding Since Runs after kept lastHead
@@ -138,13 +151,13 @@ module _ (H : List ℕ → List ℕ) where
 
   never : (calls : List Call) (before between rest : List Entry) (id₁ id₂ : List ℕ) (time₁ time₂ size₁ size₂ : ℕ) (root₁ root₂ path₁ path₂ : List ℕ) →
       run H empty calls ≡ before ++ (answered (offer id₁ time₁ size₁ root₁ path₁) 0 ∷ (between ++ (answered (offer id₂ time₂ size₂ root₂ path₂) 0 ∷ rest))) →
-      (id₁ ≡ id₂) × (size₁ ≤ size₂) × (time₁ ≤ time₂) × (size₁ ≡ size₂ → root₁ ≡ root₂)
+      Since id₁ time₁ size₁ root₁ (head id₂ time₂ size₂ root₂)
   unfolding Runs after kept Since
   never calls before between rest id₁ id₂ time₁ time₂ size₁ size₂ root₁ root₂ path₁ path₂ e =
       let w : Runs empty (before ++ (answered (offer id₁ time₁ size₁ root₁ path₁) 0 ∷ (between ++ (answered (offer id₂ time₂ size₂ root₂ path₂) 0 ∷ rest)))) = rw e at (runs calls empty) in
       let l = later before (answered (offer id₁ time₁ size₁ root₁ path₁) 0 ∷ (between ++ (answered (offer id₂ time₂ size₂ root₂ path₂) 0 ∷ rest))) empty w in
       let first = head id₁ time₁ size₁ root₁ in
-      let s = since id₁ time₁ size₁ root₁ between (answered (offer id₂ time₂ size₂ root₂ path₂) 0 ∷ rest) first (refl, omega arith, omega arith, λ q. refl) (l .1) in
+      let s = since id₁ time₁ size₁ root₁ between (answered (offer id₂ time₂ size₂ root₂ path₂) 0 ∷ rest) first (refl, omega arith, omega arith, λ q. refl, λ q. (refl, refl)) (l .1) in
       let k = later between (answered (offer id₂ time₂ size₂ root₂ path₂) 0 ∷ rest) first (l .1) in
       since-offer id₁ time₁ size₁ root₁ (lastHead first between) id₂ time₂ size₂ root₂ path₂ s (k .0)
 
@@ -192,5 +205,16 @@ module _ (H : List ℕ → List ℕ) where
       fit between rest (lastHead empty before) (some-page (lastHead empty before) place page path (l .0)) (l .1)
 
 pub never-back : NeverBack
+unfolding Since
 never-back calls before between rest id₁ id₂ time₁ time₂ size₁ size₂ root₁ root₂ path₁ path₂ e =
-    never sha256 calls before between rest id₁ id₂ time₁ time₂ size₁ size₂ root₁ root₂ path₁ path₂ (sym (same-answers calls) ∙ e)
+    let s = never sha256 calls before between rest id₁ id₂ time₁ time₂ size₁ size₂ root₁ root₂ path₁ path₂ (sym (same-answers calls) ∙ e) in
+    (s .0, s .1, s .3, later-or-same (eqb time₁ time₂) refl (s .0) (s .2) (s .4))
+  where
+    later-or-same : (b : Bool) → eqb time₁ time₂ ≡ b → id₁ ≡ id₂ → time₁ ≤ time₂ → (time₁ ≡ time₂ → (size₁ ≡ size₂) × (root₁ ≡ root₂)) → (time₁ < time₂) ⊎ (head id₁ time₁ size₁ root₁ ≡ head id₂ time₂ size₂ root₂)
+    later-or-same true q i le h = let t = eqb-true time₁ time₂ q in let k = h t in inr (rw (i, t, k .0, k .1))
+    later-or-same false q i le h = let t = eqb-false time₁ time₂ q in inl (omega arith)
+
+pub one-timestamp : OneTimestamp
+unfolding Since
+one-timestamp calls before between rest id₁ id₂ time size₁ size₂ root₁ root₂ path₁ path₂ e =
+    never sha256 calls before between rest id₁ id₂ time time size₁ size₂ root₁ root₂ path₁ path₂ (sym (same-answers calls) ∙ e) .4 refl

@@ -13,4 +13,5 @@ pub mod Settling
 pub mod Keeping
 pub mod Computing
 pub mod Serving
+pub mod Timestamps
 pub mod Every

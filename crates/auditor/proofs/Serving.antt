@@ -1,6 +1,7 @@
 -- An honest log: all that it serves is accepted, and a dispute about two of its pages says that they are the same. Assumes nothing.
 use mathlib.Core.Path.{_≡_, refl, sym, ap, ap₂, _∙_}
 use mathlib.Core.Bool.{Bool, true, false, not, _&&_, _||_}
+use mathlib.Core.Logic.{_⊎_, inl, inr}
 use mathlib.Core.List.{List, [], _∷_, _++_, map}
 use Prim.Native.Nat.{ℕ, zero, suc, _*_, _%_, _≤_, _<_}
 use native.Mathlib.Omega.{arith}
@@ -32,6 +33,7 @@ use Rattle.auditor.specs.Dispute.{Finding, alike, longestPath, Ruling, r
 use Rattle.auditor.specs.Calls.{Call, offer, ask, Entry, answered, answers, number, after, run, heads}
 use Rattle.growing.proofs.Calling.{follows-all}
 use Rattle.auditor.specs.Claims.{leaves, Served, HonestLog, GrownHeads}
+use Rattle.auditor.proofs.Offering.{as-earlier}
 use Rattle.auditor.proofs.Reading.{read-back}
 use Rattle.auditor.proofs.Holding.{same-answers, heads-fit}
 
@@ -54,14 +56,25 @@ module _ (H : List ℕ → List ℕ) (id : List ℕ) (least : 2 ≤ length id) (
   takes-first =
       rw (eq-eqb (length s) 32 s-32, le-ltb (length id) 2 least, le-ltb 127 (length id) most, inside n some in-range)
 
-  takes-later : (t m : ℕ) (r proof : List ℕ) → length proof % 32 ≡ 0 → m ≤ n → t ≤ time → (n ≡ m → s ≡ r) → consistencyVerdict H m n r s proof ≡ 0 → offerNumber H (head id t m r) id time n s proof ≡ 0
+  -- a later head with a fresh timestamp is left to the verdict
+  pub takes-later : (t m : ℕ) (r proof : List ℕ) → length proof % 32 ≡ 0 → m ≤ n → t ≤ time → (t ≡ time → (m ≡ n) × (r ≡ s)) → (n ≡ m → s ≡ r) → offerNumber H (head id t m r) id time n s proof ≡ consistencyVerdict H m n r s proof
   unfolding offerNumber byRecord against
-  takes-later t m r proof whole le since one v =
-      rw (eq-eqb (length s) 32 s-32, le-ltb (length id) 2 least, le-ltb 127 (length id) most, eq-eqb (length proof % 32) 0 whole, same-refl id, inside n some in-range, le-ltb n m le, le-ltb time t since, same-size n m s r one) v
+  takes-later t m r proof whole le since one-time one =
+      rw (eq-eqb (length s) 32 s-32, le-ltb (length id) 2 least, le-ltb 127 (length id) most, eq-eqb (length proof % 32) 0 whole, same-refl id, inside n some in-range, le-ltb n m le, as-earlier t m r time n s one-time, le-ltb time t since, same-size n m s r one)
 
 takes-page : (H : List ℕ → List ℕ) (id : List ℕ) (t m : ℕ) (r : List ℕ) (place : ℕ) (item proof : List ℕ) → length item ≤ mostItem → inclusionVerdict H (H (0 ∷ item)) place m r proof ≡ 0 → pageNumber H (head id t m r) place item proof ≡ 0
 unfolding pageNumber
 takes-page H id t m r place item proof l v = rw (le-ltb mostItem (length item) l) v
+
+-- a later timestamp, or the head held again
+module _ {t time m n : ℕ} where
+  no-earlier : (t < time) ⊎ ((t ≡ time) × (m ≡ n)) → t ≤ time
+  no-earlier (inl l) = omega arith
+  no-earlier (inr k) = omega (arith, k .0)
+
+  again : (t < time) ⊎ ((t ≡ time) × (m ≡ n)) → t ≡ time → m ≡ n
+  again (inl l) q = absurd (omega arith)
+  again (inr k) q = k .1
 
 -- one accepted call, and what follows it
 goes-on : (H : List ℕ → List ℕ) (c : Call) (held held₂ : Held) (calls : List Call) (es : List Entry) → number H held c ≡ 0 → after H held c 0 ≡ held₂ → run H held₂ calls ≡ es → run H held (c ∷ calls) ≡ answered c 0 ∷ es
@@ -213,7 +226,7 @@ module _ (id : List ℕ) (pages : List (List ℕ)) (all : length pages ≤ large
         let c = consistency-accepted sha256 m n (rootAt m) (rootAt n) (since m n) v .counted in
         ap (λ (held : Held). run sha256 held (offer id time n (rootAt n) (since m n) ∷ calls)) (held-at m t some)
         ∙ goes-on sha256 (offer id time n (rootAt n) (since m n)) (head id t m (rootAt m)) (heldAt n time) calls (map (λ (c : Call). answered c 0) calls)
-        (takes-later sha256 id least most time n (rootAt n) (root-at-32 n) (omega arith) (omega arith) t m (rootAt m) (since m n) (omega arith) order later (λ q. ap rootAt q) v)
+        (takes-later sha256 id least most time n (rootAt n) (root-at-32 n) (omega arith) (omega arith) t m (rootAt m) (since m n) (omega arith) order (no-earlier later) (λ q. let k = again later q in (k, ap rootAt k)) (λ q. ap rootAt q) ∙ v)
         (sym (held-at n time (omega arith))) (accepts s le)
     accepts (Served.page {m = m} {t = t} {place = place} {calls = calls} l s) h =
         let item = getD pages place [] in

@@ -1,5 +1,6 @@
 -- What else is proved of every list of calls. Assumes nothing: these are statements.
 use mathlib.Core.Path.{_≡_}
+use mathlib.Core.Logic.{_⊎_}
 use mathlib.Core.List.{List, [], _∷_, _++_, map}
 use Prim.Native.Nat.{ℕ, zero, suc, _*_, _≤_, _<_}
 use lib.ListN.{length, take, getD}
@@ -35,12 +36,13 @@ RefusedAddNothing =
     (let es = accepted (answers r calls) in
     (answers r (map callOf es) ≡ es) × (final r (map callOf es) ≡ final r calls))
 
--- of two accepted heads the later has the log id of the earlier, no smaller size and no earlier timestamp, and the same root where it has the same size
+-- of two accepted heads the later has the log id of the earlier, no smaller size, the same root where it has the same size, and a later timestamp, or the
+-- two are the same head
 abbrev pub NeverBack : Type 0
 NeverBack =
     (calls : List Call) (before between rest : List Entry) (id₁ id₂ : List ℕ) (time₁ time₂ size₁ size₂ : ℕ) (root₁ root₂ path₁ path₂ : List ℕ) →
     answers none calls ≡ before ++ (answered (offer id₁ time₁ size₁ root₁ path₁) 0 ∷ (between ++ (answered (offer id₂ time₂ size₂ root₂ path₂) 0 ∷ rest))) →
-    (id₁ ≡ id₂) × (size₁ ≤ size₂) × (time₁ ≤ time₂) × (size₁ ≡ size₂ → root₁ ≡ root₂)
+    (id₁ ≡ id₂) × (size₁ ≤ size₂) × (size₁ ≡ size₂ → root₁ ≡ root₂) × ((time₁ < time₂) ⊎ (head id₁ time₁ size₁ root₁ ≡ head id₂ time₂ size₂ root₂))
 
 -- An honest log: its id, and its pages in order.
 module _ (id : List ℕ) (pages : List (List ℕ)) where
@@ -48,13 +50,14 @@ module _ (id : List ℕ) (pages : List (List ℕ)) where
   unfoldable pub leaves : ℕ → List ℕ
   leaves n = take (32 * n) (joined (map (leaf sha256) pages))
 
-  -- The calls that it serves, where the head held has size m and timestamp t, and m is 0 where none is held: its heads, the paths from head to head, and
-  -- its pages with their paths, all by the RFC's definitions: a builder makes the same, of as many leaves as a buffer may join.
+  -- The calls that it serves, where the head held has size m and timestamp t, and m is 0 where none is held: its heads, each later one with a
+  -- later timestamp or the one held again, the paths from head to head, and its pages with their paths, all by the RFC's definitions: a builder makes the
+  -- same, of as many leaves as a buffer may join.
   pub data Served : ℕ → ℕ → List Call → Type 0 where
     done : {m t : ℕ} → Served m t []
     first : {t n time : ℕ} {calls : List Call} → 0 < n → n ≤ length pages → Served n time calls →
         Served 0 t (offer id time n (root sha256 (nodes (leaves n))) [] ∷ calls)
-    later : {m t n time : ℕ} {calls : List Call} → 0 < m → m ≤ n → n ≤ length pages → t ≤ time → Served n time calls →
+    later : {m t n time : ℕ} {calls : List Call} → 0 < m → m ≤ n → n ≤ length pages → (t < time) ⊎ ((t ≡ time) × (m ≡ n)) → Served n time calls →
         Served m t (offer id time n (root sha256 (nodes (leaves n))) (joined (consistency sha256 m (nodes (leaves n)))) ∷ calls)
     page : {m t place : ℕ} {calls : List Call} → place < m → Served m t calls →
         Served m t (ask place (getD pages place []) (joined (path sha256 place (nodes (leaves m)))) ∷ calls)

@@ -9,3 +9,4 @@ pub mod Demand
 pub mod Keeping
 pub mod Examples
 pub mod Claims
+pub mod Timestamps

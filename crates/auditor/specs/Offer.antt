@@ -20,13 +20,17 @@ outside size = eqb size 0 || ltb largestSize size
 unfoldable pub first : ℕ → List ℕ → ℕ
 first size path = cond (outside size) 6 (cond (eqb (length path) 0) 0 7)
 
+-- no fresh timestamp (RFC 9162, 4.10): earlier than the one held, or equal where the size or the root is another
+unfoldable pub stale : ℕ → ℕ → List ℕ → ℕ → ℕ → List ℕ → Bool
+stale time₀ size₀ root₀ time size root = ltb time time₀ || (eqb time time₀ && (not (eqb size size₀) || not (same root root₀)))
+
 module _ (H : List ℕ → List ℕ) where
   -- a later head, against the one held (id₀, time₀, size₀, root₀)
   unfoldable pub against : List ℕ → ℕ → ℕ → List ℕ → List ℕ → ℕ → ℕ → List ℕ → List ℕ → ℕ
   against id₀ time₀ size₀ root₀ id time size root path =
       cond (not (same id₀ id)) 11
       (cond (outside size || ltb size size₀) 6
-      (cond (ltb time time₀) 12
+      (cond (stale time₀ size₀ root₀ time size root) 12
       (cond (eqb size size₀ && not (same root root₀)) 13
       (consistencyVerdict H size₀ size root₀ root path))))
 

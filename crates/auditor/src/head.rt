@@ -11,7 +11,7 @@ ghost use mathlib.Core.Path.{_≡_};
 ghost use lib.ListN.{length};
 ghost use Rattle.hash.specs.Digest.{sha256};
 ghost use Rattle.auditor.specs.Held.{view, idOf};
-ghost use Rattle.auditor.specs.Offer.{outside, first, against, offerNumber, offered};
+ghost use Rattle.auditor.specs.Offer.{outside, first, stale, against, offerNumber, offered};
 
 // Whether no tree has this size.
 fn no_size(size: u64) -> bool
@@ -33,6 +33,19 @@ fn first_number(size: u64, path: &[u8]) -> u32
     7
 }
 
+// Whether a timestamp is earlier than the record's, or equal where the size or the root is another.
+fn is_stale(r: Record, timestamp: u64, size: u64, root: &[u8]) -> bool
+    ensures { λ b. ⌜ b ≡ stale (r .timestamp) (r .size) (r .root) timestamp size (now (root .entry)) ⌝ }
+{
+    if timestamp != r.timestamp {
+        return timestamp < r.timestamp;
+    }
+    if size != r.size {
+        return true;
+    }
+    other_root(r, size, root)
+}
+
 // A later head, against the one held: 11, 6, 12, 13, then the consistency verdict.
 fn later_number(r: Record, id: &[u8], timestamp: u64, size: u64, root: &[u8], path: &[u8]) -> u32
     ensures { λ n. ⌜ n ≡ against sha256 (idOf r) (r .timestamp) (r .size) (r .root) (now (id .entry)) timestamp size (now (root .entry)) (now (path .entry)) ⌝ }
@@ -46,7 +59,7 @@ fn later_number(r: Record, id: &[u8], timestamp: u64, size: u64, root: &[u8], pa
     if size < r.size {
         return 6;
     }
-    if timestamp < r.timestamp {
+    if is_stale(r, timestamp, size, root) {
         return 12;
     }
     if other_root(r, size, root) {

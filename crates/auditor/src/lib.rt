@@ -18,6 +18,7 @@ ghost use Rattle.auditor.specs.Held.{none, stayed};
 ghost use Rattle.auditor.specs.Demand.{Demand3, WhateverGiven, TwoAuditors};
 ghost use Rattle.auditor.specs.Keeping.{JournalJoins, LongEnough, AsKept};
 ghost use Rattle.auditor.specs.Examples.{Disputed};
+ghost use Rattle.auditor.specs.Timestamps.{OneTimestamp, HeldAgain, OnlyStricter};
 ghost use Rattle.auditor.specs.Claims.{HeldIsAccepted, RefusedAddNothing, NeverBack, HonestLog, GrownHeads};
 use bytes::no_id;
 use bytes::no_root;
@@ -73,6 +74,9 @@ pub fn claims()
     ensures held_is_accepted { λ _. ⌜ HeldIsAccepted ⌝ }
     ensures refused_add_nothing { λ _. ⌜ RefusedAddNothing ⌝ }
     ensures never_back { λ _. ⌜ NeverBack ⌝ }
+    ensures one_timestamp { λ _. ⌜ OneTimestamp ⌝ }
+    ensures held_again { λ _. ⌜ HeldAgain ⌝ }
+    ensures only_stricter { λ _. ⌜ OnlyStricter ⌝ }
     ensures disputed { λ _. ⌜ Disputed ⌝ }
     ensures honest_log { λ _. ⌜ HonestLog ⌝ }
     ensures grown_heads { λ _. ⌜ GrownHeads ⌝ }

@@ -158,6 +158,15 @@ fn go_back(given: Audit, three: Log, log: Log) -> Audit {
         no_path(),
         12,
     );
+    let eight = add(log, page(307, 1, b"6 mice of line BALB/c to Laboratory C"));
+    a = offer(
+        a,
+        b"  Head of more pages with the time held",
+        &LOG,
+        head_of(eight, 2000),
+        consistency(eight, 7),
+        12,
+    );
     a = offer(
         a,
         b"  Head of another log",

@@ -24,7 +24,7 @@ fn meaning(n: u32) {
         7 => words(b" (wrong count of nodes)"),
         8 => words(b" (a root disagrees)"),
         11 => words(b" (other log)"),
-        12 => words(b" (earlier timestamp)"),
+        12 => words(b" (no later timestamp)"),
         13 => words(b" (same size, other root)"),
         14 => words(b" (no head yet)"),
         _ => words(b" (see README.md)"),

@@ -29,7 +29,7 @@ returns-4 c =
     let d = c .before .before in
     let e = d .before .before in
     let b = e .before .before in
-    simp (sym (b .before .same-log .ensures) ∙ not-false _ (b .if1 .left), sym (e .before .no-size .ensures) ∙ e .if2 .left, le-ltb _ _ (d .if3 .left), lt-ltb _ _ (c .if4 .taken))
+    simp (sym (b .before .same-log .ensures) ∙ not-false _ (b .if1 .left), sym (e .before .no-size .ensures) ∙ e .if2 .left, le-ltb _ _ (d .if3 .left), sym (c .before .is-stale .ensures) ∙ c .if4 .taken)
 
 returns-5 : tie.Need-returns-5
 unfolding against
@@ -38,7 +38,7 @@ returns-5 c =
     let d = f .before .before in
     let e = d .before .before in
     let b = e .before .before in
-    simp (sym (b .before .same-log .ensures) ∙ not-false _ (b .if1 .left), sym (e .before .no-size .ensures) ∙ e .if2 .left, le-ltb _ _ (d .if3 .left), le-ltb _ _ (f .if4 .left), sym (c .before .other-root .ensures) ∙ c .if5 .taken)
+    simp (sym (b .before .same-log .ensures) ∙ not-false _ (b .if1 .left), sym (e .before .no-size .ensures) ∙ e .if2 .left, le-ltb _ _ (d .if3 .left), sym (f .before .is-stale .ensures) ∙ f .if4 .left, sym (c .before .other-root .ensures) ∙ c .if5 .taken)
 
 returns-6 : tie.Need-returns-6
 unfolding against
@@ -48,7 +48,7 @@ returns-6 c =
     let d = f .before .before in
     let e = d .before .before in
     let b = e .before .before in
-    simp (sym (b .before .same-log .ensures) ∙ not-false _ (b .if1 .left), sym (e .before .no-size .ensures) ∙ e .if2 .left, le-ltb _ _ (d .if3 .left), le-ltb _ _ (f .if4 .left), sym (g .before .other-root .ensures) ∙ g .if5 .left, c .consistency-verdict .ensures)
+    simp (sym (b .before .same-log .ensures) ∙ not-false _ (b .if1 .left), sym (e .before .no-size .ensures) ∙ e .if2 .left, le-ltb _ _ (d .if3 .left), sym (f .before .is-stale .ensures) ∙ f .if4 .left, sym (g .before .other-root .ensures) ∙ g .if5 .left, c .consistency-verdict .ensures)
 
 pub later-number-spec : {M : Type 1} → statement M
 later-number-spec =
@@ -59,6 +59,7 @@ later-number-spec =
     (λ c κs. search needs)
     returns-2
     returns-3
+    (λ c κs. search needs)
     returns-4
     (λ c κs. search needs)
     returns-5
