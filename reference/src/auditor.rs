@@ -50,7 +50,9 @@ pub fn offer(h: HashFunction, record: &Record, offer: &Offer) -> (u64, Record) {
     }
 }
 
-/// An empty record checks 5, 10, 6, 7; otherwise 5, 10, 11, 6, 12, 13, 7, 8.
+/// An empty record checks 5, 10, 6, 7; otherwise 5, 10, 11, 6, 12, 13, 7, 8. One
+/// millisecond has one head: 12 is given for an earlier timestamp, and for an equal
+/// one where size or root is another than the held. So 13 is left for a later one.
 fn judge_offer(h: HashFunction, record: &Record, offer: &Offer) -> Result<Head, u64> {
     let root: Hash = offer.root[..].try_into().map_err(|_| 5u64)?;
     if !(2..=LONGEST_ID).contains(&offer.log_id.len()) {
@@ -77,7 +79,8 @@ fn judge_offer(h: HashFunction, record: &Record, offer: &Offer) -> Result<Head, 
             if !in_range || offer.size < held.size {
                 return Err(6);
             }
-            if offer.timestamp < held.timestamp {
+            let is_other = offer.size != held.size || root != held.root;
+            if offer.timestamp < held.timestamp || offer.timestamp == held.timestamp && is_other {
                 return Err(12);
             }
             if offer.size == held.size && root != held.root {
@@ -362,10 +365,18 @@ mod tests {
     fn large_sizes() {
         let (a, b) = ([1; 32], [2; 32]);
         assert_eq!(
-            offer(digest, &head(1 << 32, 5, a), &an_offer((1 << 32) + 1, 5, node(&a, &b), &b)),
-            (0, head((1 << 32) + 1, 5, node(&a, &b)))
+            offer(digest, &head(1 << 32, 5, a), &an_offer((1 << 32) + 1, 6, node(&a, &b), &b)),
+            (0, head((1 << 32) + 1, 6, node(&a, &b)))
         );
+        // The sizes are alike in their lower 32 bits, or in all but the highest one.
+        for (held, size) in [(1, (1 << 32) + 1), (1, (1 << 63) + 1), (LARGEST_SIZE >> 1, LARGEST_SIZE)] {
+            let held = head(held, 5, a);
+            assert_eq!(offer(digest, &held, &an_offer(size, 5, a, &[])), (12, held.clone()));
+            assert_eq!(offer(digest, &held, &an_offer(size, 6, a, &[])), (7, held.clone()));
+        }
         let held = head(LARGEST_SIZE, 5, a);
+        assert_eq!(offer(digest, &held, &an_offer(LARGEST_SIZE, 5, a, &[])), (0, held.clone()));
+        assert_eq!(offer(digest, &held, &an_offer(LARGEST_SIZE, 5, b, &[])), (12, held.clone()));
         assert_eq!(offer(digest, &held, &an_offer(LARGEST_SIZE, 6, a, &[])), (0, head(LARGEST_SIZE, 6, a)));
         assert_eq!(offer(digest, &held, &an_offer(LARGEST_SIZE - 1, 6, a, &[])), (6, held.clone()));
         assert_eq!(offer(digest, &held, &an_offer(LARGEST_SIZE, 6, b, &[])), (13, held.clone()));
@@ -432,8 +443,8 @@ mod tests {
         let leaves = [[1; 32], [2; 32], [3; 32]];
         let (two, three) = (tree::root(digest, &leaves[..2]), tree::root(digest, &leaves));
         let held = head(2, 5, two);
-        let good = an_offer(3, 5, three, &leaves[2]);
-        assert_eq!(offer(digest, &held, &good), (0, head(3, 5, three)));
+        let good = an_offer(3, 6, three, &leaves[2]);
+        assert_eq!(offer(digest, &held, &good), (0, head(3, 6, three)));
         // The same head again, and with a later timestamp.
         assert_eq!(offer(digest, &held, &an_offer(2, 5, two, &[])), (0, held.clone()));
         assert_eq!(offer(digest, &held, &an_offer(2, 6, two, &[])), (0, head(2, 6, two)));
@@ -451,11 +462,76 @@ mod tests {
         assert_eq!(bad(|o| (o.size = 1, o.timestamp = 4).1), 6);
         assert_eq!(bad(|o| o.size = 0), 6);
         assert_eq!(bad(|o| o.size = LARGEST_SIZE), 7);
+        assert_eq!(bad(|o| (o.size = 1, o.timestamp = 5).1), 6);
         assert_eq!(bad(|o| (o.size = 2, o.timestamp = 4).1), 12);
+        assert_eq!(bad(|o| (o.size = 2, o.timestamp = 5).1), 12);
+        assert_eq!(bad(|o| o.timestamp = 4), 12);
+        assert_eq!(bad(|o| o.timestamp = 5), 12);
+        assert_eq!(bad(|o| (o.timestamp = 5, o.path.clear()).1), 12);
         assert_eq!(bad(|o| o.size = 2), 13);
         assert_eq!(bad(|o| o.path.extend([0; 32])), 7);
         assert_eq!(bad(|o| o.path[3] ^= 1), 8);
         assert_eq!(offer(digest, &held, &an_offer(2, 5, two, &[0; 32])), (7, held.clone()));
+    }
+
+    /// The cases by hand of request 4, each alone on one record: timestamp, size, root
+    /// and path of the offer, and its number.
+    #[test]
+    fn one_millisecond() {
+        let leaves = [[1; 32], [2; 32], [3; 32]];
+        let (a, b) = (tree::root(digest, &leaves[..2]), tree::root(digest, &leaves));
+        let (right, wrong, none, two) = (&leaves[2][..], &[4; 32][..], &[][..], &[3; 64][..]);
+        let held = head(2, 5, a);
+        for (timestamp, size, root, path, expected) in [
+            (5, 2, a, none, 0),
+            (5, 2, a, right, 7),
+            (5, 2, a, two, 7),
+            (5, 2, b, none, 12),
+            (5, 2, b, right, 12),
+            (5, 3, b, right, 12),
+            (5, 3, b, wrong, 12),
+            (5, 3, b, none, 12),
+            (5, 3, a, none, 12),
+            (5, 3, a, right, 12),
+            (5, 3, a, two, 12),
+            (5, 1, b, none, 6),
+            (5, 1, a, none, 6),
+            (4, 2, a, none, 12),
+            (4, 2, a, right, 12),
+            (4, 2, b, none, 12),
+            (4, 3, b, right, 12),
+            (4, 1, b, none, 6),
+            (6, 2, a, none, 0),
+            (6, 2, a, right, 7),
+            (6, 2, b, none, 13),
+            (6, 2, b, right, 13),
+            (6, 3, b, right, 0),
+            (6, 3, b, none, 7),
+            (6, 3, b, wrong, 8),
+            (6, 3, a, right, 8),
+            (6, 1, b, none, 6),
+            (6, 2, b, &two[..33], 10),
+            (5, 2, a, &two[..33], 10),
+        ] {
+            let (number, after) = offer(digest, &held, &an_offer(size, timestamp, root, path));
+            assert_eq!(number, expected, "{timestamp} {size} {root:?} {}", path.len());
+            assert_eq!(after, if expected == 0 { head(size, timestamp, root) } else { held.clone() });
+        }
+        // An empty record has no 12, and another log or a bad root comes first.
+        assert_eq!(offer(digest, &None, &an_offer(2, 0, b, none)), (0, head(2, 0, b)));
+        for timestamp in [4, 5] {
+            let one = an_offer(3, timestamp, b, right);
+            assert_eq!(offer(digest, &held, &Offer { log_id: b"lag".to_vec(), ..one.clone() }), (11, held.clone()));
+            assert_eq!(offer(digest, &held, &Offer { root: vec![0; 31], ..one }), (5, held.clone()));
+        }
+        // No timestamp is before 0, and none after the last.
+        for (timestamp, other) in [(0, u64::MAX), (u64::MAX, 0), (1 << 63, (1 << 63) - 1), ((1 << 32) - 1, 1 << 32)] {
+            let held = head(2, timestamp, a);
+            assert_eq!(offer(digest, &held, &an_offer(2, timestamp, a, none)), (0, held.clone()));
+            assert_eq!(offer(digest, &held, &an_offer(3, timestamp, b, right)), (12, held.clone()));
+            let after = if other > timestamp { (0, head(3, other, b)) } else { (12, held.clone()) };
+            assert_eq!(offer(digest, &held, &an_offer(3, other, b, right)), after);
+        }
     }
 
     #[test]
@@ -535,8 +611,8 @@ mod tests {
         assert!(met.iter().all(|count| *count > 50), "{met:?}");
     }
 
-    /// Sizes never fall and timestamps never go back; a refusal changes nothing.
-    /// The record as it is kept answers as the paper's does.
+    /// Sizes never fall and timestamps never go back, and one timestamp has one head; a
+    /// refusal changes nothing. The record as it is kept answers as the paper's does.
     #[test]
     fn records_only_grow() {
         let random = &mut Random::new(333);
@@ -549,6 +625,7 @@ mod tests {
                 }
                 if let (Some(old), Some(new)) = (&before, &after) {
                     assert!(new.size >= old.size && new.timestamp >= old.timestamp && new.log_id == old.log_id);
+                    assert!(new.timestamp > old.timestamp || new == old);
                 }
                 assert!(before.is_none() || after.is_some());
                 match call {

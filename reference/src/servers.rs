@@ -102,6 +102,8 @@ pub struct Server {
     other: Log,
     clock: u64,
     at: usize,
+    /// The size of the last head that was signed.
+    signed: Option<u64>,
 }
 
 impl Server {
@@ -111,7 +113,7 @@ impl Server {
         let place = *random.pick(&log.pages.keys().copied().collect::<Vec<u64>>());
         other.pages.insert(place, some_page(random));
         let id_length = *random.pick(&[2, 2, 3, 5, 32, 126, 127]);
-        Server { h, kind, id: random.bytes(id_length), log, other, clock: random.below(1000), at: 0 }
+        Server { h, kind, id: random.bytes(id_length), log, other, clock: random.below(1000), at: 0, signed: None }
     }
 
     /// `count` calls, each made knowing the record before it. A forger tries
@@ -140,16 +142,22 @@ impl Server {
         calls
     }
 
+    /// The last head again, at times with a later timestamp, or one of another size,
+    /// always with a later timestamp: one millisecond has one head.
     fn some_offer(&mut self, record: &Record, tries: usize, random: &mut Random) -> Offer {
         if random.one_in(2) {
             self.at = (self.at + random.below(3) as usize).min(self.log.sizes.len() - 1);
         }
-        self.clock += random.below(3);
-        let offer = self.offer(record);
-        match record {
-            Some(_) if self.kind == Kind::Forging && random.one_in(2) => self.spoilt_offer(offer, record, tries, random),
-            _ => offer,
+        let size = self.log.sizes[self.at];
+        self.clock += random.below(3).max((self.signed != Some(size)) as u64);
+        let mut offer = self.offer(size, record);
+        if record.is_some() && self.kind == Kind::Forging && random.one_in(2) {
+            offer = self.spoilt_offer(offer, record, tries, random);
         }
+        // A forger may have signed for a later time.
+        self.clock = self.clock.max(offer.timestamp);
+        self.signed = Some(offer.size);
+        offer
     }
 
     fn some_page(&mut self, record: &Record, tries: usize, random: &mut Random) -> PageCall {
@@ -160,8 +168,7 @@ impl Server {
         }
     }
 
-    fn offer(&self, record: &Record) -> Offer {
-        let size = self.log.sizes[self.at];
+    fn offer(&self, size: u64, record: &Record) -> Offer {
         let path = match record {
             Some(held) if held.size < size => self.log.consistency_path(held.size, size),
             _ => vec![],
@@ -181,7 +188,7 @@ impl Server {
 
     fn spoilt_offer(&self, mut offer: Offer, record: &Record, tries: usize, random: &mut Random) -> Offer {
         let held = record.as_ref().unwrap();
-        match random.below(12) {
+        match random.below(19) {
             0 => offer.log_id = random.bytes(3),
             1 => spoil(&mut offer.log_id, random),
             2 => {
@@ -198,9 +205,31 @@ impl Server {
             }
             8 => spoil(&mut offer.root, random),
             9 | 10 => spoil(&mut offer.path, random),
+            // A second head of the held one's millisecond: a larger one with a right path; another
+            // root; a larger size with the held root; a smaller size.
+            11 | 12 => {
+                offer = self.larger(record, random);
+                offer.timestamp = held.timestamp;
+            }
+            13 => {
+                let mut root = held.root.to_vec();
+                root[*random.pick(&[0, 7, 31])] ^= 1 << random.below(8);
+                offer = Offer { timestamp: held.timestamp, size: held.size, root, path: vec![], ..offer };
+            }
+            14 => {
+                let size = held.size.saturating_add(random.between(1, 6));
+                let path = self.any_nodes(random.below(3) as usize, random);
+                offer = Offer { timestamp: held.timestamp, size, root: held.root.to_vec(), path, ..offer };
+            }
+            15 => offer = Offer { timestamp: held.timestamp, size: random.below(held.size), path: vec![], ..offer },
+            // The held head again.
+            16 => {
+                let path = self.any_nodes(random.below(3) as usize, random);
+                offer = Offer { timestamp: held.timestamp, size: held.size, root: held.root.to_vec(), path, ..offer };
+            }
             _ => {
-                offer.timestamp = offer.timestamp.max(held.timestamp);
                 offer.size = held.size.saturating_add(random.below(6));
+                offer.timestamp = offer.timestamp.max(held.timestamp.saturating_add((offer.size > held.size) as u64));
                 for _ in 0..tries {
                     let count = if offer.size == held.size { 0 } else { yields::consistency_count(held.size, offer.size) };
                     offer.path = self.any_nodes(count, random);
@@ -210,6 +239,23 @@ impl Server {
                     }
                 }
             }
+        }
+        offer
+    }
+
+    /// The log's next head. Behind its last one, any nodes and the root that they yield: a right
+    /// path where the held size is a power of two, and else one that does not yield the held root.
+    fn larger(&self, record: &Record, random: &mut Random) -> Offer {
+        let held = record.as_ref().unwrap();
+        if let Some(size) = self.log.sizes.iter().find(|size| **size > held.size) {
+            return self.offer(*size, record);
+        }
+        let size = held.size.saturating_add(random.between(1, 6));
+        let mut offer = Offer { size, ..self.offer(held.size, record) };
+        if size > held.size {
+            let nodes: Vec<Hash> = (0..yields::consistency_count(held.size, size)).map(|_| (self.h)(&random.bytes(3))).collect();
+            offer.path = nodes.concat();
+            offer.root = yields::consistency(self.h, held.size, size, &held.root, &nodes).unwrap().1.to_vec();
         }
         offer
     }
@@ -269,6 +315,33 @@ mod tests {
     use crate::carry::weak;
     use crate::sha256::digest;
     use crate::verdict::{self, Consistency, Inclusion};
+
+    /// An honest server's offers are all accepted, and its pages once a head is held. It
+    /// offers a head again at the same time and later, and larger ones.
+    #[test]
+    fn honest_servers_are_accepted() {
+        let random = &mut Random::new(8);
+        let mut met = [0; 3];
+        for turn in 0..400 {
+            let h = if turn % 2 == 0 { digest } else { weak };
+            let most = LARGEST_SIZE >> random.below(64);
+            let calls = Server::random(h, Kind::Honest, most, random).calls(30, 0, random);
+            let mut before: Record = None;
+            for (call, (number, after)) in calls.iter().zip(auditor::run(h, &calls)) {
+                match (call, &before) {
+                    (Call::Page(_), None) => assert_eq!(number, 14),
+                    (Call::Page(_), Some(_)) => assert_eq!(number, 0),
+                    (Call::Offer(_), None) => assert_eq!(number, 0),
+                    (Call::Offer(offer), Some(held)) => {
+                        assert_eq!(number, 0, "{offer:?} after {held:?}");
+                        met[if offer.size > held.size { 2 } else { (offer.timestamp > held.timestamp) as usize }] += 1;
+                    }
+                }
+                before = after;
+            }
+        }
+        assert!(met.iter().all(|count| *count >= 300), "{met:?}");
+    }
 
     #[test]
     fn logs_are_consistent() {

@@ -7,10 +7,11 @@ use crate::proofs::{judged, next_to_powers, plain_consistency, some_places, Proo
 use crate::random::Random;
 use crate::requests::{lines_that_are_no_request, Asked, Entry, Layer, Requests};
 use crate::servers::{spoil, Kind, Log, Server, KINDS};
-use crate::sha256::{digest, leaf};
+use crate::sha256::{digest, leaf, node};
 use crate::tree::{HashFunction, LARGEST_SIZE};
 use crate::words::{bytes, number, repeated, short, Word};
 use crate::yields;
+use std::cmp::Ordering::{self, Equal, Greater, Less};
 
 pub const LAYER: Layer = Layer {
     name: "auditor",
@@ -324,6 +325,9 @@ struct Given<T> {
 
 const ID: &[u8] = b"a log";
 
+/// The longest log id, of one byte: a record with it is written shorter.
+const LONG: &[u8] = &[7; LONGEST_ID];
+
 fn stored(id: &[u8], timestamp: u64, size: u64, root: [u8; 32]) -> Stored {
     let offer = Offer { log_id: id.to_vec(), timestamp, size, root: root.to_vec(), path: vec![] };
     let (refusal, record) = Stored::EMPTY.offer(digest, &offer);
@@ -339,6 +343,7 @@ fn seven() -> Log {
     log
 }
 
+/// Of an offer with a later timestamp and a larger size.
 fn offer_faults() -> Faults<Given<Offer>> {
     vec![
         (5, |g| g.call.root.truncate(31)),
@@ -351,6 +356,17 @@ fn offer_faults() -> Faults<Given<Offer>> {
         (6, |g| g.call.size = 0),
         (6, |g| g.call.size = g.record.size - 1),
         (12, |g| g.call.timestamp = g.record.timestamp - 1),
+        (12, |g| g.call.timestamp = g.record.timestamp),
+        (12, |g| {
+            g.call.timestamp = g.record.timestamp;
+            g.call.size = g.record.size + 1;
+            g.call.root = g.record.root.to_vec();
+        }),
+        (12, |g| {
+            g.call.timestamp = g.record.timestamp;
+            g.call.size = g.record.size;
+            g.call.root = vec![9; 32];
+        }),
         (13, |g| {
             g.call.size = g.record.size;
             g.call.root = vec![9; 32];
@@ -515,7 +531,7 @@ fn rules(every_pair: bool) -> Vec<(u64, Asked)> {
     offers(&mut all, &Stored::EMPTY, offer(50, 3, vec![]), offer_faults_of_the_empty_record());
     offers(&mut all, &empty, offer(50, 3, vec![]), offer_faults_of_the_empty_record());
     let three = stored(ID, 50, 3, log.root(3));
-    offers(&mut all, &three, offer(50, 7, log.consistency_path(3, 7)), offer_faults());
+    offers(&mut all, &three, offer(51, 7, log.consistency_path(3, 7)), offer_faults());
 
     // Limits, on both kinds of record: log ids, sizes and timestamps.
     for (length, refusal) in [(2, 0), (127, 0), (126, 0), (1, 5), (0, 5), (128, 5), (300, 5)] {
@@ -537,27 +553,34 @@ fn rules(every_pair: bool) -> Vec<(u64, Asked)> {
         }
     }
     let hash = [6; 32];
-    let any = |size: u64, path: Vec<u8>| Offer { log_id: ID.to_vec(), timestamp: 50, size, root: hash.to_vec(), path };
+    let any = |size: u64, path: Vec<u8>| Offer { log_id: LONG.to_vec(), timestamp: 50, size, root: hash.to_vec(), path };
+    let later = |one: Offer| Offer { timestamp: 51, ..one };
     all.push((6, ask_offer(&Stored::EMPTY, &any(0, vec![]))));
     for size in [1, 2, 1 << 32, (1 << 32) + 1, 1 << 63, LARGEST_SIZE - 1, LARGEST_SIZE] {
         all.push((0, ask_offer(&Stored::EMPTY, &any(size, vec![]))));
         // The same head again, with a later and an earlier timestamp, with a node, and with another root.
-        let record = stored(ID, 50, size, hash);
+        let record = stored(LONG, 50, size, hash);
         all.push((0, ask_offer(&record, &any(size, vec![]))));
         all.push((0, ask_offer(&record, &Offer { timestamp: u64::MAX, ..any(size, vec![]) })));
         all.push((12, ask_offer(&record, &Offer { timestamp: 49, ..any(size, vec![]) })));
         all.push((7, ask_offer(&record, &any(size, vec![0; 32]))));
-        all.push((13, ask_offer(&record, &Offer { root: vec![7; 32], ..any(size, vec![]) })));
+        let other = Offer { root: vec![7; 32], ..any(size, vec![]) };
+        all.push((12, ask_offer(&record, &other)));
+        all.push((13, ask_offer(&record, &later(other))));
         if size < LARGEST_SIZE {
-            all.push((7, ask_offer(&record, &any(size + 1, vec![]))));
+            all.push((12, ask_offer(&record, &any(size + 1, vec![]))));
+            all.push((7, ask_offer(&record, &later(any(size + 1, vec![])))));
         }
         all.push((6, ask_offer(&record, &any(size - 1, vec![]))));
     }
+    all.extend(one_millisecond_cases());
+    all.extend([0, 5, u64::MAX].into_iter().flat_map(grid));
+    all.extend(far_apart());
 
     // Records that no list of calls returns.
     for (id_length, whole) in [(0, false), (1, false), (127, true), (128, true), (1 << 63, true), (u64::MAX, true)] {
         let record = Stored { held: true, id: [7; LONGEST_ID], id_length, ..stored(ID, 50, 3, log.root(3)) };
-        let one = Offer { log_id: vec![7; LONGEST_ID], ..offer(50, 6, log.consistency_path(3, 6)) };
+        let one = Offer { log_id: vec![7; LONGEST_ID], ..offer(51, 6, log.consistency_path(3, 6)) };
         all.push((if whole { 0 } else { 11 }, ask_offer(&record, &one)));
         all.push((11, ask_offer(&record, &Offer { log_id: vec![7; 126], ..one.clone() })));
         let page = PageCall { place: 2, page: log.pages[&2].clone(), path: log.path(2, 3) };
@@ -566,14 +589,18 @@ fn rules(every_pair: bool) -> Vec<(u64, Asked)> {
     // Bytes after the log id are not looked at, and are zeros once a head is accepted.
     let mut garbage = three.clone();
     garbage.id[ID.len()..].fill(0xee);
-    all.push((0, ask_offer(&garbage, &offer(50, 6, log.consistency_path(3, 6)))));
+    all.push((0, ask_offer(&garbage, &offer(51, 6, log.consistency_path(3, 6)))));
+    all.push((0, ask_offer(&garbage, &offer(50, 3, vec![]))));
+    all.push((12, ask_offer(&garbage, &offer(50, 6, log.consistency_path(3, 6)))));
     all.push((12, ask_offer(&garbage, &offer(49, 6, log.consistency_path(3, 6)))));
     all.push((11, ask_offer(&garbage, &Offer { log_id: garbage.id[..ID.len() + 1].to_vec(), ..offer(50, 6, vec![]) })));
     // A head of no leaves takes none behind it, whatever their size.
-    let nothing = Stored { size: 0, ..three.clone() };
+    let nothing = Stored { size: 0, ..stored(LONG, 50, 1, hash) };
     for offered in [0, 1, 3, (1 << 32) + 1, LARGEST_SIZE] {
         for path in [vec![], vec![0; 32]] {
-            all.push((6, ask_offer(&nothing, &any(offered, path))));
+            let one = any(offered, path);
+            all.push((if offered == 0 { 6 } else { 12 }, ask_offer(&nothing, &one)));
+            all.push((6, ask_offer(&nothing, &later(one))));
         }
     }
     all.push((12, ask_offer(&nothing, &Offer { timestamp: 49, ..any(3, vec![]) })));
@@ -650,6 +677,157 @@ fn rules(every_pair: bool) -> Vec<(u64, Asked)> {
 fn full_size_cases() -> Vec<(u64, Asked)> {
     let offer = |size: u64| Offer { log_id: ID.to_vec(), timestamp: 50, size, root: vec![0xa1; 32], path: vec![] };
     [(0, LARGEST_SIZE), (6, 0)].map(|(refusal, size)| (refusal, ask_offer(&Stored::EMPTY, &offer(size)))).into()
+}
+
+/// A head held at size 2 with this root: for any next leaf hash the head of size 3 has the
+/// root of the two, and its path is that leaf hash.
+const HELD: [u8; 32] = [0xa1; 32];
+const NEXT: [u8; 32] = [0xc3; 32];
+
+fn held_at(timestamp: u64) -> Stored {
+    stored(LONG, timestamp, 2, HELD)
+}
+
+fn offered(timestamp: u64, size: u64, root: [u8; 32], path: &[u8]) -> Offer {
+    Offer { log_id: LONG.to_vec(), timestamp, size, root: root.to_vec(), path: path.to_vec() }
+}
+
+/// The cases by hand of request 4, two heads in one millisecond, as its readings list them:
+/// each alone on a record of timestamp 5.
+fn one_millisecond_cases() -> Vec<(u64, Asked)> {
+    let (a, b, other) = (HELD, node(&HELD, &NEXT), [0xb2; 32]);
+    let (none, right, wrong) = (&[][..], &NEXT[..], &[0xc2; 32][..]);
+    let cases = [
+        (0, offered(5, 2, a, none)),
+        (7, offered(5, 2, a, right)),
+        (12, offered(5, 2, other, none)),
+        (12, offered(5, 3, b, right)),
+        (12, offered(5, 3, a, none)),
+        (12, offered(5, 3, a, right)),
+        (12, offered(5, 3, a, &[0xc3; 64])),
+        (6, offered(5, 1, other, none)),
+        (12, offered(4, 2, a, none)),
+        (12, offered(4, 2, other, none)),
+        (12, offered(4, 3, b, right)),
+        (0, offered(6, 2, a, none)),
+        (13, offered(6, 2, other, none)),
+        (13, offered(6, 2, other, right)),
+        (0, offered(6, 3, b, right)),
+        (7, offered(6, 3, b, none)),
+        (8, offered(6, 3, b, wrong)),
+        (6, offered(6, 1, other, none)),
+        (10, offered(6, 2, other, &[0xc3; 33])),
+    ];
+    cases.map(|(refusal, one)| (refusal, ask_offer(&held_at(5), &one))).into()
+}
+
+#[derive(Clone, Copy, PartialEq)]
+enum Path {
+    Empty,
+    Right,
+    Wrong,
+}
+
+/// How an offer differs from the head that is held: timestamp and size before, at or
+/// behind the held ones; whether log and root are the held ones; the path.
+#[derive(Clone, Copy)]
+struct Differs {
+    timestamp: Ordering,
+    size: Ordering,
+    is_root: bool,
+    path: Path,
+    is_log: bool,
+}
+
+impl Differs {
+    /// The number, by the papers: 11, 6, 12, 13, 7, 8 in this order.
+    fn number(self) -> u64 {
+        match (self.is_log, self.size, self.timestamp, self.is_root, self.path) {
+            (false, _, _, _, _) => 11,
+            (_, Less, _, _, _) => 6,
+            (_, _, Less, _, _) => 12,
+            (_, Greater, Equal, _, _) => 12,
+            (_, Equal, Equal, false, _) => 12,
+            (_, Equal, Greater, false, _) => 13,
+            (_, Equal, _, true, Path::Wrong) => 7,
+            (_, Equal, _, true, _) => 0,
+            (_, Greater, Greater, _, Path::Empty) => 7,
+            (_, Greater, Greater, _, Path::Wrong) => 8,
+            // A larger tree has another root.
+            (_, Greater, Greater, true, Path::Right) => 8,
+            (_, Greater, Greater, false, Path::Right) => 0,
+        }
+    }
+
+    /// The offer to a record of this timestamp; none where no timestamp is before or behind it.
+    fn offer(self, held: u64) -> Option<Offer> {
+        let timestamp = match self.timestamp {
+            Less => held.checked_sub(1)?,
+            Equal => held,
+            Greater => held.checked_add(1)?,
+        };
+        let (size, other) = match self.size {
+            Less => (1, [0xb2; 32]),
+            Equal => (2, [0xb2; 32]),
+            Greater => (3, node(&HELD, &NEXT)),
+        };
+        // To a larger size the right path is the node that the other root is made with; else it is
+        // the empty one, and one node is wrong. A smaller size has no right path.
+        let mut path = if self.size == Greater || self.path == Path::Wrong { NEXT.to_vec() } else { vec![] };
+        match self.path {
+            Path::Empty => path.clear(),
+            Path::Wrong if self.size == Greater => path[17] ^= 4,
+            _ => (),
+        }
+        let log_id = vec![if self.is_log { 7 } else { 8 }; LONGEST_ID];
+        let root = if self.is_root { HELD } else { other };
+        Some(Offer { log_id, ..offered(timestamp, size, root, &path) })
+    }
+}
+
+/// Every way in which an offer can differ from a head held at this timestamp.
+fn grid(held: u64) -> Vec<(u64, Asked)> {
+    let mut all = Vec::new();
+    for timestamp in [Less, Equal, Greater] {
+        for size in [Less, Equal, Greater] {
+            for path in [Path::Empty, Path::Right, Path::Wrong] {
+                // The same request as with the empty path.
+                if size != Greater && path == Path::Right {
+                    continue;
+                }
+                for (is_root, is_log) in [(true, true), (false, true), (true, false), (false, false)] {
+                    let one = Differs { timestamp, size, is_root, path, is_log };
+                    all.extend(one.offer(held).map(|offer| (one.number(), ask_offer(&held_at(held), &offer))));
+                }
+            }
+        }
+    }
+    all
+}
+
+/// Timestamps and sizes far from the held ones, and roots with one bit changed.
+fn far_apart() -> Vec<(u64, Asked)> {
+    let mut all = Vec::new();
+    let other = node(&HELD, &NEXT);
+    for (held, timestamp) in [(0, u64::MAX), ((1 << 63) - 1, 1 << 63), ((1 << 32) - 1, 1 << 32), (255, 256)] {
+        for (held, timestamp, is_later) in [(held, timestamp, true), (timestamp, held, false)] {
+            let record = held_at(held);
+            let number = |refusal: u64| if is_later { refusal } else { 12 };
+            all.push((number(0), ask_offer(&record, &offered(timestamp, 2, HELD, &[]))));
+            all.push((number(13), ask_offer(&record, &offered(timestamp, 2, NEXT, &[]))));
+            all.push((number(0), ask_offer(&record, &offered(timestamp, 3, other, &NEXT))));
+        }
+    }
+    for bit in [8, 16, 31, 32, 33, 62, 63] {
+        all.push((12, ask_offer(&held_at(5), &offered(5, 2 + (1 << bit), HELD, &[]))));
+    }
+    for byte in [0, 1, 15, 16, 30, 31] {
+        let mut root = HELD;
+        root[byte] ^= 0x80 >> (byte % 8);
+        all.push((12, ask_offer(&held_at(5), &offered(5, 2, root, &[]))));
+        all.push((13, ask_offer(&held_at(5), &offered(6, 2, root, &[]))));
+    }
+    all
 }
 
 /// An offer of one size to a record of another, by nodes of one byte, and refused ones.
@@ -857,9 +1035,20 @@ fn random_record(words: &mut [Word], random: &mut Random) {
     }
 }
 
+/// At times the record has the timestamp that is offered, or one beside it; with the
+/// same timestamp it may hold the very head, or one of that size with another root.
 fn random_offer(random: &mut Random) -> Vec<Word> {
     let mut words = random_of("offer", random);
     random_record(&mut words, random);
+    if random.one_in(3) {
+        words[3] = words[7].clone();
+        match random.below(4) {
+            0 if words[9].as_hash().is_some() => (words[4], words[5]) = (words[8].clone(), words[9].clone()),
+            1 => (words[4], words[5]) = (words[8].clone(), bytes(&random.hash())),
+            2 => words[3] = number(words[7].as_number().unwrap() ^ 1),
+            _ => (),
+        }
+    }
     words
 }
 
@@ -932,6 +1121,24 @@ mod tests {
         }
     }
 
+    /// The grid holds every request once, and each row of it has every number that it can give.
+    #[test]
+    fn grids_are_whole() {
+        for (held, expected) in [(5, 84), (0, 56), (u64::MAX, 56)] {
+            let all = grid(held);
+            assert_eq!(all.len(), expected);
+            let mut lines: Vec<String> = all.iter().map(|(_, asked)| format!("{asked:?}")).collect();
+            lines.sort();
+            lines.dedup();
+            assert_eq!(lines.len(), expected);
+            let mut numbers: Vec<u64> = all.iter().map(|(refusal, _)| *refusal).collect();
+            numbers.sort();
+            numbers.dedup();
+            let met = if held == u64::MAX { vec![0, 6, 7, 11, 12] } else { vec![0, 6, 7, 8, 11, 12, 13] };
+            assert_eq!(numbers, met);
+        }
+    }
+
     type Counts = BTreeMap<(&'static str, u64, u64), usize>;
 
     fn count(h: HashFunction, all: &[Asked], counts: &mut Counts) {
@@ -950,6 +1157,72 @@ mod tests {
                 let calls = Server::random(h, kind, most, random).calls(30, tries, random);
                 count(h, &ask_list(h, &calls, random), counts);
             }
+        }
+    }
+
+    /// An offer to a head that is held, by its number and its words: the timestamp, size
+    /// and root held against those offered.
+    fn against_held(words: &[Word], refusal: u64) -> Option<&'static str> {
+        if words[0] != number(1) {
+            return None;
+        }
+        let order = |held: usize, offered: usize| words[offered].as_number().cmp(&words[held].as_number());
+        match (refusal, order(3, 7), order(4, 8), words[5] == words[9]) {
+            (12, Less, _, _) => Some("12, earlier"),
+            (12, Equal, Greater, false) => Some("12, equal, a larger size"),
+            (12, Equal, Greater, true) => Some("12, equal, a larger size, the held root"),
+            (12, Equal, Equal, false) => Some("12, equal, another root"),
+            (0, Equal, Equal, true) => Some("0, equal"),
+            (0, Greater, Equal, true) => Some("0, later, the same size"),
+            (0, Greater, Greater, _) => Some("0, later, a larger size"),
+            (7, Equal, Equal, true) => Some("7, equal"),
+            (6, Equal, Less, _) => Some("6, equal"),
+            (13, Greater, Equal, false) => Some("13, later"),
+            (0 | 12 | 13, _, _, _) => Some("none of these"),
+            _ => None,
+        }
+    }
+
+    const AGAINST_HELD: [&str; 10] = [
+        "0, equal",
+        "0, later, a larger size",
+        "0, later, the same size",
+        "12, earlier",
+        "12, equal, a larger size",
+        "12, equal, a larger size, the held root",
+        "12, equal, another root",
+        "13, later",
+        "6, equal",
+        "7, equal",
+    ];
+
+    /// Each is met ten times in lists, and in random offers to records of any value.
+    #[test]
+    fn every_offer_to_a_held_head_is_met() {
+        let random = &mut Random::new(15);
+        let mut counts: [BTreeMap<&str, usize>; 3] = Default::default();
+        for _ in 0..100 {
+            for (h, counts) in [digest as HashFunction, weak].into_iter().zip(&mut counts) {
+                for kind in KINDS {
+                    let most = random.between(1, 40);
+                    let calls = Server::random(h, kind, most, random).calls(30, 20, random);
+                    let all = ask_list(h, &calls, random);
+                    let offers = all.iter().filter(|asked| asked.0 == "offer");
+                    for kind in offers.filter_map(|asked| against_held(&read(asked), answer(h, asked)[0].as_number().unwrap())) {
+                        *counts.entry(kind).or_default() += 1;
+                    }
+                }
+            }
+        }
+        for _ in 0..3000 {
+            let asked = ("offer", random_offer(random));
+            let refusal = answer(digest, &asked)[0].as_number().unwrap();
+            against_held(&read(&asked), refusal).into_iter().for_each(|kind| *counts[2].entry(kind).or_default() += 1);
+        }
+        println!("{counts:?}");
+        for counts in counts {
+            assert_eq!(counts.keys().copied().collect::<Vec<_>>(), AGAINST_HELD);
+            assert!(counts.values().all(|count| *count >= 10), "{counts:?}");
         }
     }
 

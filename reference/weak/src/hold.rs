@@ -14,6 +14,7 @@ use reference::tree::{self, hashes, leaf_hash, Hash, LARGEST_SIZE, MOST_LEAVES};
 use reference::verdict::{self, Consistency, Inclusion};
 use reference::yields;
 use std::cell::Cell;
+use std::cmp::Ordering::{Equal, Greater, Less};
 use std::collections::BTreeMap;
 use std::fmt::{Debug, Formatter};
 use std::panic::{catch_unwind, AssertUnwindSafe};
@@ -644,6 +645,9 @@ impl<'a> Hold<'a> {
         if one.size == LARGEST_SIZE && number == 0 {
             self.kind("offer", format!("0 at the largest size, where {held} is held"));
         }
+        if let Some(what) = beside_held(record, one, number) {
+            self.kind("offer", what);
+        }
         self.same("offer", (number, after.clone()), found, (record, one));
         (number, after)
     }
@@ -693,6 +697,25 @@ fn appended(journal: &mut [u8], used: usize, size: u64, root: &[u8], path: &[u8]
     let rest = journal.get_mut(used..).ok_or(9u64)?;
     rest.get_mut(..head.len()).ok_or(9u64)?.copy_from_slice(&head);
     Ok(used + head.len())
+}
+
+/// What an offer is beside the head that is held, where its timestamp or its root matters.
+fn beside_held(record: &Stored, one: &Offer, number: u64) -> Option<&'static str> {
+    if !record.held {
+        return None;
+    }
+    let later = || Offer { timestamp: one.timestamp.saturating_add(1), ..one.clone() };
+    match (number, one.timestamp.cmp(&record.timestamp)) {
+        (12, Less) => Some("12 at an earlier timestamp"),
+        (12, Equal) if one.size == record.size => Some("12 at an equal timestamp, another root"),
+        (12, Equal) if record.offer(weak, &later()).0 == 0 => Some("12 at an equal timestamp, a larger size, the path right"),
+        (12, Equal) => Some("12 at an equal timestamp, a larger size"),
+        (0, Equal) => Some("0 for the held head again"),
+        (7, Equal) => Some("7 for the held head again"),
+        (6, Equal) => Some("6 at an equal timestamp"),
+        (13, Greater) => Some("13 at a later timestamp"),
+        _ => None,
+    }
 }
 
 /// The strings differ and have one hash.

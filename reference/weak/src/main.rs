@@ -177,7 +177,9 @@ fn record_round(hold: &mut Hold, random: &mut Random) {
     let mut record = Stored { held: !random.one_in(4), ..Stored::EMPTY };
     record.id.fill_with(|| random.below(2) as u8);
     record.id_length = *random.pick(&[0, 1, 2, 3, 126, 127, 128, u64::MAX]);
-    record.timestamp = random.below(3);
+    // Small ones, or up to the last; one in four is equal.
+    let earliest = if random.one_in(8) { u64::MAX - 3 } else { 0 };
+    record.timestamp = earliest + random.below(3);
     let one = forge::step(random);
     (record.size, record.root) = (one.first, one.old[..].try_into().unwrap());
     let length = if random.one_in(4) { *random.pick(&[0, 1, 127, 128]) } else { record.id_length.min(127) as usize };
@@ -185,8 +187,8 @@ fn record_round(hold: &mut Hold, random: &mut Random) {
     if random.one_in(8) {
         spoil(&mut log_id, random);
     }
-    let mut offer = Offer { log_id, timestamp: random.below(4), size: one.second, root: one.new, path: one.proof };
-    match random.below(10) {
+    let mut offer = Offer { log_id, timestamp: earliest + random.below(4), size: one.second, root: one.new, path: one.proof };
+    match random.below(11) {
         0 => spoil(&mut offer.root, random),
         1 => spoil(&mut offer.path, random),
         2 => offer.path.clear(),
@@ -194,6 +196,9 @@ fn record_round(hold: &mut Hold, random: &mut Random) {
         4 => record.size = *random.pick(&[0, 1, offer.size, 1 << 32, LARGEST_SIZE - 1, LARGEST_SIZE]),
         5 => (offer.size, offer.path) = (record.size, vec![]),
         6 => (offer.size, offer.path, offer.root) = (record.size, vec![], record.root.to_vec()),
+        // The held head with nodes, and its root at another size.
+        7 => (offer.size, offer.path, offer.root) = (record.size, vec![7; 32 * random.between(1, 2) as usize], record.root.to_vec()),
+        8 => offer.root = record.root.to_vec(),
         _ => (),
     }
     hold.offer(&record, &offer);
@@ -202,7 +207,7 @@ fn record_round(hold: &mut Hold, random: &mut Random) {
 }
 
 /// One size: of each verdict what is accepted and no place, of carrying a path's room and a byte fewer, and a head of that size
-/// as the first and as a later one.
+/// as the first and as a later one, also with the timestamp that is held.
 fn size_round(hold: &mut Hold, size: u64, random: &mut Random) {
     for place in [0, size - 1, random.below(size)] {
         hold.compare(&forge::two_at(place, size, random), &random.bytes(PAIR));
@@ -218,9 +223,11 @@ fn size_round(hold: &mut Hold, size: u64, random: &mut Random) {
             hold.inclusion(&leaf, place, size, &root, &path.concat());
         }
         let held = Stored { held: true, size: one.first, root: one.old[..].try_into().unwrap(), id_length: 2, ..Stored::EMPTY };
-        let offer = |path: &[u8]| Offer { log_id: vec![0; 2], timestamp: 1, size, root: one.new.clone(), path: path.to_vec() };
-        hold.offer(&held, &offer(&one.proof));
-        hold.offer(&Stored::EMPTY, &offer(&[]));
+        let offer = |timestamp: u64, path: &[u8]| Offer { log_id: vec![0; 2], timestamp, size, root: one.new.clone(), path: path.to_vec() };
+        for timestamp in [0, 1] {
+            hold.offer(&held, &offer(timestamp, &one.proof));
+        }
+        hold.offer(&Stored::EMPTY, &offer(1, &[]));
     }
 }
 
@@ -344,7 +351,7 @@ fn main() {
         tally.count(COMPARED.contains(name), || format!("public, and not compared: {name}"));
     }
     translation(&mut tally);
-    let is_full = WANTED.lines().count() > 175 && variants::CODES.len() > 40;
+    let is_full = WANTED.lines().count() > 185 && variants::CODES.len() > 46;
     tally.count(is_full, || "kinds or wrong programs are gone".to_string());
 
     let hold = rounds(variants::CODES[0].1, seed, count, false);
