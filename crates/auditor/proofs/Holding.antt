@@ -1,6 +1,6 @@
 -- What an auditor's record holds over every list of calls: the code's answers are the paper's, and the record is the head that was accepted last, which
 -- never goes back. Assumes nothing.
-use mathlib.Core.Path.{_≡_, refl, sym, ap, ap₂, _∙_}
+use mathlib.Core.Path.{_≡_, refl, sym, ap, ap₂, subst, _∙_}
 use mathlib.Core.Bool.{Bool, true, false}
 use mathlib.Core.Logic.{_⊎_, inl, inr}
 use mathlib.Core.List.{List, [], _∷_, _++_, map}
@@ -23,7 +23,7 @@ use Rattle.auditor.specs.Offer.{offerNumber, kept, keptRecord, offered}
 use Rattle.auditor.specs.Page.{pageNumber, asked}
 use Rattle.auditor.specs.Heads.{Heads, then}
 use Rattle.auditor.specs.Calls.{Call, offer, ask, Entry, answered, called, answers, final, callOf, accepted, number, after, run, heads}
-use Rattle.auditor.specs.Timestamps.{OneTimestamp}
+use Rattle.auditor.specs.Timestamps.{OneHeadEach, OneTimestamp}
 use Rattle.auditor.specs.Claims.{lastHead, HeldIsAccepted, RefusedAddNothing, NeverBack}
 use Rattle.auditor.proofs.Offering.{taken}
 use Rattle.auditor.proofs.Reading.{Fits}
@@ -214,7 +214,10 @@ never-back calls before between rest id₁ id₂ time₁ time₂ size₁ size₂
     later-or-same true q i le h = let t = eqb-true time₁ time₂ q in let k = h t in inr (rw (i, t, k .0, k .1))
     later-or-same false q i le h = let t = eqb-false time₁ time₂ q in inl (omega arith)
 
-pub one-timestamp : OneTimestamp
+each : (H : List ℕ → List ℕ) (calls : List Call) → OneHeadEach (run H empty calls)
 unfolding Since
-one-timestamp calls before between rest id₁ id₂ time size₁ size₂ root₁ root₂ path₁ path₂ e =
-    never sha256 calls before between rest id₁ id₂ time time size₁ size₂ root₁ root₂ path₁ path₂ (sym (same-answers calls) ∙ e) .4 refl
+each H calls before between rest id₁ id₂ time size₁ size₂ root₁ root₂ path₁ path₂ e =
+    never H calls before between rest id₁ id₂ time time size₁ size₂ root₁ root₂ path₁ path₂ e .4 refl
+
+pub one-timestamp : OneTimestamp
+one-timestamp = (each, λ calls. subst OneHeadEach (sym (same-answers calls)) (each sha256 calls))

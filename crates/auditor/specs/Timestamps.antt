@@ -7,16 +7,20 @@ use lib.Dec.{ltb, eqb}
 use lib.ListN.{length}
 use Rattle.tree.specs.Joined.{same}
 use Rattle.tree.specs.Verdict.{consistencyVerdict}
-use Rattle.auditor.specs.Held.{head, view, none}
+use Rattle.auditor.specs.Held.{empty, head, view, none}
 use Rattle.auditor.specs.Offer.{outside, against}
-use Rattle.auditor.specs.Calls.{Call, offer, Entry, answered, called, answers, final}
+use Rattle.auditor.specs.Calls.{Call, offer, Entry, answered, called, answers, final, run}
 
 -- two accepted heads with one timestamp have one size and one root
-abbrev pub OneTimestamp : Type 0
-OneTimestamp =
-    (calls : List Call) (before between rest : List Entry) (id₁ id₂ : List ℕ) (time size₁ size₂ : ℕ) (root₁ root₂ path₁ path₂ : List ℕ) →
-    answers none calls ≡ before ++ (answered (offer id₁ time size₁ root₁ path₁) 0 ∷ (between ++ (answered (offer id₂ time size₂ root₂ path₂) 0 ∷ rest))) →
+abbrev pub OneHeadEach : List Entry → Type 0
+OneHeadEach entries =
+    (before between rest : List Entry) (id₁ id₂ : List ℕ) (time size₁ size₂ : ℕ) (root₁ root₂ path₁ path₂ : List ℕ) →
+    entries ≡ before ++ (answered (offer id₁ time size₁ root₁ path₁) 0 ∷ (between ++ (answered (offer id₂ time size₂ root₂ path₂) 0 ∷ rest))) →
     (size₁ ≡ size₂) × (root₁ ≡ root₂)
+
+-- whatever an auditor is called with, over any hash; and of the code
+abbrev pub OneTimestamp : Type 0
+OneTimestamp = ((H : List ℕ → List ℕ) (calls : List Call) → OneHeadEach (run H empty calls)) × ((calls : List Call) → OneHeadEach (answers none calls))
 
 -- the head held, offered again with its timestamp or a later one: accepted with an empty path, and 7 with any other of whole nodes
 abbrev pub HeldAgain : Type 0
