@@ -1,6 +1,6 @@
 -- The stricter test for 12, and the head held offered again. Assumes nothing.
 use mathlib.Core.Path.{_≡_, refl, sym, ap, _∙_}
-use mathlib.Core.Bool.{Bool, cond, not, _&&_, _||_}
+use mathlib.Core.Bool.{cond, not, _||_}
 use mathlib.Core.List.{List, [], _∷_}
 use Prim.Native.Nat.{ℕ, zero, suc, _%_, _≤_, _<_}
 use native.Mathlib.Omega.{arith}
@@ -14,28 +14,26 @@ use Rattle.tree.specs.Verdict.{consistencyVerdict}
 use Rattle.tree.proofs.Answering.{count-7, sizes-in}
 use Rattle.tree.proofs.Accepting.{pass, consistency-accepted, equal}
 use Rattle.auditor.specs.Held.{Held, empty, head, none}
-use Rattle.auditor.specs.Offer.{outside, first, against, byRecord, kept, offered}
+use Rattle.auditor.specs.Offer.{outside, first, stale, against, byRecord, kept, offered}
 use Rattle.auditor.specs.Calls.{offer, ask, Entry, answered, called, answers, number, after}
 use Rattle.auditor.specs.Claims.{lastHead}
-use Rattle.auditor.specs.Timestamps.{HeldAgain, older, OnlyStricter}
+use Rattle.auditor.specs.Timestamps.{HeldAgain, byTime, older, OnlyStricter}
 use Rattle.auditor.proofs.Offering.{or-false, passed, as-earlier, another, by-tests}
 use Rattle.auditor.proofs.Holding.{same-answers, held-is-accepted, Runs, runs}
 use Rattle.auditor.proofs.Serving.{takes-later}
 
 module _ (H : List ℕ → List ℕ) (id₀ : List ℕ) (time₀ size₀ : ℕ) (root₀ id : List ℕ) (time size : ℕ) (root path : List ℕ) where
-  -- the number by what the test for 12 says
-  by : Bool → ℕ
-  by b =
-      cond (not (same id₀ id)) 11 (cond (outside size || ltb size size₀) 6 (cond b 12 (cond (eqb size size₀ && not (same root root₀)) 13
-      (consistencyVerdict H size₀ size root₀ root path))))
+  -- the tests of an offer, in their order
+  tested : against H id₀ time₀ size₀ root₀ id time size root path ≡ byTime H id₀ time₀ size₀ root₀ id time size root path (stale time₀ size₀ root₀ time size root)
+  unfolding against byTime
+  tested = refl
 
   kept-else : (time₀ ≡ time → (size₀ ≡ size) × (root₀ ≡ root)) → against H id₀ time₀ size₀ root₀ id time size root path ≡ older H id₀ time₀ size₀ root₀ id time size root path
-  unfolding against older by
-  kept-else h = ap by (as-earlier time₀ size₀ root₀ time size root h)
+  kept-else h = tested ∙ ap (byTime H id₀ time₀ size₀ root₀ id time size root path) (as-earlier time₀ size₀ root₀ time size root h)
 
   twelve : time₀ ≡ time → ((size₀ ≡ size) × (root₀ ≡ root) → ⊥) → against H id₀ time₀ size₀ root₀ id time size root path ≡ cond (not (same id₀ id)) 11 (cond (outside size || ltb size size₀) 6 12)
-  unfolding against by
-  twelve q other = ap by (another time₀ size₀ root₀ time size root q other)
+  unfolding byTime
+  twelve q other = tested ∙ ap (byTime H id₀ time₀ size₀ root₀ id time size root path) (another time₀ size₀ root₀ time size root q other)
 
 pub only-stricter : OnlyStricter
 only-stricter H id₀ time₀ size₀ root₀ id time size root path = record {

@@ -1,6 +1,6 @@
 -- The timestamps of accepted heads: request 4, 'two heads, one millisecond'. Assumes nothing: these are statements.
 use mathlib.Core.Path.{_≡_}
-use mathlib.Core.Bool.{cond, not, _&&_, _||_}
+use mathlib.Core.Bool.{Bool, cond, not, _&&_, _||_}
 use mathlib.Core.List.{List, _∷_, _++_}
 use Prim.Native.Nat.{ℕ, _%_, _≤_}
 use lib.Dec.{ltb, eqb}
@@ -30,11 +30,15 @@ HeldAgain =
     called (final none calls) (offer id again size root path) .number ≡ cond (eqb (length path) 0) 0 7
 
 module _ (H : List ℕ → List ℕ) (id₀ : List ℕ) (time₀ size₀ : ℕ) (root₀ id : List ℕ) (time size : ℕ) (root path : List ℕ) where
-  -- the number that a head got before the request, where 12 stood for an earlier timestamp alone
-  unfoldable pub older : ℕ
-  older =
-      cond (not (same id₀ id)) 11 (cond (outside size || ltb size size₀) 6 (cond (ltb time time₀) 12 (cond (eqb size size₀ && not (same root root₀)) 13
+  -- the number by the tests in their order, where the one for 12 says this
+  unfoldable pub byTime : Bool → ℕ
+  byTime refused =
+      cond (not (same id₀ id)) 11 (cond (outside size || ltb size size₀) 6 (cond refused 12 (cond (eqb size size₀ && not (same root root₀)) 13
       (consistencyVerdict H size₀ size root₀ root path))))
+
+  -- the number that a head got before the request, when 12 stood for an earlier timestamp alone
+  abbrev pub older : ℕ
+  older = byTime (ltb time time₀)
 
   -- the number that it gets
   abbrev given : ℕ
