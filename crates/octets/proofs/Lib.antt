@@ -1,0 +1,3 @@
+pub mod Sameness
+pub mod Putting
+pub mod Numbers
