@@ -1,28 +1,91 @@
 -- How the code comes by the padded message: blocks that lie elsewhere, messages in two parts, the last blocks, and a hash value's bytes. Assumes nothing.
 use mathlib.Core.Path.{_≡_, refl, sym, ap, _∙_}
 use mathlib.Core.List.{List, [], _∷_, _++_, append-assoc}
-use Prim.Native.Nat.{ℕ, zero, suc, _+_, _-_, _*_, _/_, _%_, _<_, _≤_}
-use native.Mathlib.Nat.{add-suc, add-zero, zero-add}
+use Prim.Native.Nat.{ℕ, zero, suc, _+_, _-_, _*_, _/_, _%_, _^_, _<_, _≤_}
+use native.Mathlib.Nat.{add-suc, add-zero, zero-add, div-one}
 use native.Mathlib.Numerals.{add-one}
 use native.Mathlib.Omega.{arith}
 use lib.ListN.{length, take, drop, set, getD, replicate, take-append-drop, length-append, length-replicate, replicate-append-replicate, List·getD-append}
-use lib.Seq.{paste, set-append-seam, take-append-seam, take-length, drop-append-add, drop-at, take-at, length-take-le, getD-append-add, sets-eq}
+use lib.Seq.{paste, set-append-seam, take-append-seam, take-length, drop-append-add, drop-at, take-at, length-take-le, getD-append-add}
+use Rattle.octets.specs.Bytes.{put}
+use Rattle.octets.specs.Numbers.{be}
+use Rattle.octets.proofs.Numbers.{be-length}
+use Rattle.octets.proofs.Putting.{put-length, put-then, set-put}
 use Rattle.sha256.specs.declared.State.{State}
 use Rattle.sha256.specs.Words.{wordFrom}
-use Rattle.hash.specs.Message.{lengthBytes, zeros, ending, padded, absorbed, hashValue, stateBytes}
-use Rattle.hash.specs.Inner.{putState}
+use Rattle.hash.specs.Message.{zeros, ending, padded, absorbed, hashValue, stateBytes}
 
 -- ---- a hash value's bytes
 
-pub state-written : (l : List ℕ) (s : State) → 32 ≤ length l → putState l s ≡ stateBytes s ++ drop 32 l
-unfolding putState stateBytes
-state-written l s h = sets-eq (stateBytes s) l 0 h
+word-bytes : (y : ℕ) → be 4 y ≡ (y / 2 ^ 24 % 256) ∷ (y / 2 ^ 16 % 256) ∷ (y / 2 ^ 8 % 256) ∷ (y % 256) ∷ []
+unfolding be
+word-bytes y = simp div-one
+
+-- one byte behind those that were put
+byte-next : (out v : List ℕ) (at x : ℕ) → at + length v < length out → set (put out at v) (at + length v) x ≡ put out at (v ++ (x ∷ []))
+byte-next out v at x h = set-put (put out at v) (at + length v) x (rw (put-length out v at (omega arith)) h) ∙ put-then out v (x ∷ []) at (omega arith)
+
+-- a word's four bytes, one behind the other
+pub word-put : (out : List ℕ) (at x : ℕ) → at + 3 < length out →
+    set (set (set (set out at (x / 2 ^ 24 % 256)) (at + 1) (x / 2 ^ 16 % 256)) (at + 2) (x / 2 ^ 8 % 256)) (at + 3) (x % 256) ≡ put out at (be 4 x)
+word-put out at x h =
+    let a = x / 2 ^ 24 % 256 in
+    let b = x / 2 ^ 16 % 256 in
+    let c = x / 2 ^ 8 % 256 in
+    let d = x % 256 in
+    let p = set-put out at a (omega arith) in
+    let q = ap (λ (o : List ℕ). set o (at + 1) b) p ∙ byte-next out (a ∷ []) at b (omega arith) in
+    let r = ap (λ (o : List ℕ). set o (at + 2) c) q ∙ byte-next out (a ∷ b ∷ []) at c (omega arith) in
+    ap (λ (o : List ℕ). set o (at + 3) d) r ∙ byte-next out (a ∷ b ∷ c ∷ []) at d (omega arith) ∙ ap (put out at) (sym (word-bytes x))
+
+-- what is put behind what was put at the start
+next : (o p q v b : List ℕ) (k : ℕ) → length v ≡ k → p ≡ put o 0 v → q ≡ put p k b → q ≡ put o 0 (v ++ b)
+next o p q v b k l e f =
+    f ∙ ap (λ (x : List ℕ). put x k b) e ∙ ap (λ (j : ℕ). put (put o 0 v) j b) (sym l ∙ sym (zero-add (length v))) ∙ put-then o v b 0 (omega arith)
+
+-- the words of a hash value, one behind the other
+module _ (s : State) (o : List ℕ) where
+  abbrev A : List ℕ
+  A = be 4 (s .a)
+
+  abbrev B : List ℕ
+  B = be 4 (s .b)
+
+  abbrev C : List ℕ
+  C = be 4 (s .c)
+
+  abbrev D : List ℕ
+  D = be 4 (s .d)
+
+  abbrev E : List ℕ
+  E = be 4 (s .e)
+
+  abbrev F : List ℕ
+  F = be 4 (s .f)
+
+  abbrev G : List ℕ
+  G = be 4 (s .g)
+
+  abbrev H : List ℕ
+  H = be 4 (s .h)
+
+  pub state-written : (a b c d e f g h : List ℕ) → a ≡ put o 0 A → b ≡ put a 4 B → c ≡ put b 8 C → d ≡ put c 12 D → e ≡ put d 16 E → f ≡ put e 20 F
+      → g ≡ put f 24 G → h ≡ put g 28 H → h ≡ stateBytes s ++ drop 32 o
+  unfolding be stateBytes
+  state-written a b c d e f g h pa pb pc pd pe pf pg ph =
+      let qb = next o a b A B 4 refl pa pb in
+      let qc = next o b c (A ++ B) C 8 refl qb pc in
+      let qd = next o c d ((A ++ B) ++ C) D 12 refl qc pd in
+      let qe = next o d e (((A ++ B) ++ C) ++ D) E 16 refl qd pe in
+      let qf = next o e f ((((A ++ B) ++ C) ++ D) ++ E) F 20 refl qe pf in
+      let qg = next o f g (((((A ++ B) ++ C) ++ D) ++ E) ++ F) G 24 refl qf pg in
+      next o g h ((((((A ++ B) ++ C) ++ D) ++ E) ++ F) ++ G) H 28 refl qg ph
 
 -- ---- whole blocks: the last bytes r of a message of n bytes, with what follows
 
 ending-length : (n : ℕ) → length (ending n) ≡ 9 + zeros n
 unfolding ending
-ending-length n = simp (length-append, length-replicate) (omega arith)
+ending-length n = let l = be-length 8 (8 * n) in simp (length-append, length-replicate) (omega arith)
 
 -- the zeros fill the last block
 pub filled : (t : ℕ) → t < 64 → t + (9 + zeros t) ≡ 64 * ((t + 72) / 64)
@@ -79,15 +142,15 @@ marked x b z j =
 
 -- the array d of two blocks, with the mark and the length b after x
 pub packed : (x d b l : List ℕ) (n end : ℕ) → length x < 120 → n % 64 ≡ length x % 64 → end ≡ 64 * ((length x + 72) / 64)
-    → d ≡ x ++ replicate (128 - length x) 0 → b ≡ lengthBytes (8 * n) → l ≡ paste (set d (length x) 0x80) (end - 8) b (length b)
+    → d ≡ x ++ replicate (128 - length x) 0 → b ≡ be 8 (8 * n) → l ≡ paste (set d (length x) 0x80) (end - 8) b (length b)
     → take end l ≡ x ++ ending n
-unfolding ending blank
+unfolding ending blank be
 packed x d b l n end h m e p q r =
     let k : length (x ++ ending n) ≡ end = last-length x n m ∙ sym e in
     let f : end ≡ length x + (9 + zeros n) = sym k ∙ length-append x (ending n) ∙ ap (λ (i : ℕ). length x + i) (ending-length n) in
     let g : 128 - length x ≡ suc (zeros n + (8 + (128 - end))) = blocks-left (length x) (zeros n) end h f e in
     let o : end - 8 ≡ length x + suc (zeros n) = rw f (omega arith) in
-    rw (r, p, q, g, o, marked x (lengthBytes (8 * n)) (zeros n) (128 - end)) (take-at (x ++ ending n) (blank (128 - end)) end k)
+    rw (r, p, q, g, o, marked x (be 8 (8 * n)) (zeros n) (128 - end)) (take-at (x ++ ending n) (blank (128 - end)) end k)
 
 -- ---- words that lie elsewhere
 

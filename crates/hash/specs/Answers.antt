@@ -1,18 +1,16 @@
 -- What the public functions answer, by the numbers of the table of refusals, and what they leave in lent memory. Assumes nothing.
 use mathlib.Core.Bool.{cond}
 use mathlib.Core.List.{List, _++_}
-use Prim.Native.Nat.{ℕ}
+use Prim.Native.Nat.{ℕ, _+_}
 use lib.Dec.{eqb, ltb}
 use lib.ListN.{length, drop, replicate}
+use Rattle.octets.specs.Limits.{mostItem}
 
--- ---- the limits
+-- ---- the limit
 
-abbrev pub mostItem : ℕ
-mostItem = 33554432
-
--- one more, for the 0x00 before an item
+-- the longest input of a digest: an item with the 0x00 before it
 abbrev pub mostInput : ℕ
-mostInput = 33554433
+mostInput = mostItem + 1
 
 -- ---- a hash by value, of an input of at most `most` bytes
 

@@ -4,4 +4,3 @@ pub mod Message
 pub mod Digest
 pub mod Answers
 pub mod Claims
-pub mod Inner

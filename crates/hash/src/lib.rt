@@ -8,16 +8,16 @@ ghost use Prim.Native.Nat.{_≤_, _<_};
 ghost use lib.ListN.{length};
 ghost use Rattle.hash.specs.Digest.{sha256, leafHash, nodeHash};
 ghost use Rattle.hash.specs.Claims.{Has32, AreBytes};
-ghost use Rattle.hash.specs.Answers.{mostInput, mostItem, valueNumber, valueBytes, intoNumber, intoBytes};
+ghost use Rattle.hash.specs.Answers.{mostInput, valueNumber, valueBytes, intoNumber, intoBytes};
+ghost use Rattle.octets.specs.Limits.{mostItem};
 use message::bytes_of;
 use message::hash_of;
 use message::node_of;
 use message::put_state;
+use octets::limits::MOST_ITEM;
 
-// The longest item, and the longest input of a digest: an item with one byte before it.
-const MOST_ITEM: usize = 33_554_432;
-
-const MOST_INPUT: usize = 33_554_433;
+// The longest input of a digest: an item with one byte before it.
+const MOST_INPUT: usize = MOST_ITEM + 1;
 
 // A hash value as bytes.
 pub struct Digest {

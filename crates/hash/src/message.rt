@@ -4,41 +4,16 @@ ghost use mathlib.Core.Path.{_≡_};
 ghost use mathlib.Core.List.{_++_, _∷_};
 ghost use Prim.Native.Nat.{_+_, _-_, _*_, _/_, _%_, _^_, _<_, _≤_};
 ghost use lib.ListN.{length, take, drop, replicate};
-ghost use lib.Seq.{paste};
+ghost use Rattle.octets.specs.Bytes.{put as putBytes};
+ghost use Rattle.octets.specs.Numbers.{be};
 ghost use Rattle.sha256.specs.Words.{wordFrom};
 ghost use Rattle.sha256.specs.Sha256.{compress as compressOf, initial as initialOf};
-ghost use Rattle.hash.specs.Message.{lengthBytes, ending, absorbed, hashValue, stateBytes};
-ghost use Rattle.hash.specs.Inner.{putWord};
+ghost use Rattle.hash.specs.Message.{ending, absorbed, hashValue, stateBytes};
+use octets::be8;
+use octets::put;
 use sha256::State;
 use sha256::initial;
 use sha256::step_at;
-
-// Copies s into d from `at` on.
-fn put(s: &[u8], d: &mut [u8], at: usize)
-    requires { ⌜ at + length (now s) ≤ length (now d) ⌝ }
-    ensures { λ _. ⌜ now (d .exit) ≡ paste (now (d .entry)) at (now (s .entry)) (length (now (s .entry))) ⌝ }
-{
-    let mut j = 0;
-    while j < s.len() {
-        d[at + j] = s[j];
-        j += 1;
-    }
-}
-
-fn length_bytes(x: u64) -> [u8; 8]
-    ensures { λ r. ⌜ r ≡ lengthBytes x ⌝ }
-{
-    [
-        ((x >> 56) % 256) as u8,
-        ((x >> 48) % 256) as u8,
-        ((x >> 40) % 256) as u8,
-        ((x >> 32) % 256) as u8,
-        ((x >> 24) % 256) as u8,
-        ((x >> 16) % 256) as u8,
-        ((x >> 8) % 256) as u8,
-        (x % 256) as u8,
-    ]
-}
 
 // Head and then rest, at the start of an array of zeros.
 fn join(head: &[u8], rest: &[u8], a: &mut [u8])
@@ -46,8 +21,8 @@ fn join(head: &[u8], rest: &[u8], a: &mut [u8])
     ensures { λ _. ⌜ now (a .exit) ≡ (now (head .entry) ++ now (rest .entry)) ++ replicate (length (now (a .entry)) - (length (now (head .entry)) + length (now (rest .entry)))) 0 ⌝ }
 {
     let k = head.len();
-    put(head, a, 0);
-    put(rest, a, k);
+    put(a, 0, head);
+    put(a, k, rest);
 }
 
 // The last bytes of a message of n bytes, head and then rest, and what follows a message, up to byte `end` of two blocks of zeros.
@@ -57,10 +32,10 @@ fn pack(head: &[u8], rest: &[u8], n: u64, end: usize, a: &mut [u8])
     ensures { λ _. ⌜ take end (now (a .exit)) ≡ (now (head .entry) ++ now (rest .entry)) ++ ending n ⌝ }
 {
     let len = head.len() + rest.len();
-    let b = length_bytes(8 * n);
+    let b = be8(8 * n);
     join(head, rest, a);
     a[len] = 0x80;
-    put(&b, a, end - 8);
+    put(a, end - 8, &b);
 }
 
 // The hash value after the block that starts at byte p of m.
@@ -130,13 +105,14 @@ pub(crate) fn node_of(left: &[u8; 32], right: &[u8; 32]) -> State
 {
     let mut w = [0u32; 64];
     let mut h = [1u8; 33];
-    put(left, &mut h, 1);
+    put(&mut h, 1, left);
     finish(initial(), &h, right, 65, &mut w)
 }
 
+// The four bytes of a word. Here and not a call of `octets`: there are eight of them for each hash.
 fn put_word(out: &mut [u8], at: usize, x: u32)
     requires { ⌜ at + 3 < length (now out) ⌝ }
-    ensures { λ _. ⌜ now (out .exit) ≡ putWord (now (out .entry)) at x ⌝ }
+    ensures { λ _. ⌜ now (out .exit) ≡ putBytes (now (out .entry)) at (be 4 x) ⌝ }
 {
     out[at] = ((x >> 24) % 256) as u8;
     out[at + 1] = ((x >> 16) % 256) as u8;

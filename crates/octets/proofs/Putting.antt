@@ -95,6 +95,12 @@ module _ (out b : List ℕ) (at : ℕ) where
   unfolding putWithin
   put-out h = rw (lt-leb (at + length b) (length out) h)
 
+-- what fits, as the kit writes it
+pub pasted : {y : List ℕ} (out b : List ℕ) (at : ℕ) → at + length b ≤ length out → y ≡ putWithin out at b → y ≡ paste out at b (length b)
+pasted out b at h e =
+    e ∙ put-in out b at h ∙ sym (append-assoc (take at out) b (drop (at + length b) out))
+    ∙ ap (λ (x : List ℕ). (take at out ++ x) ++ drop (at + length b) out) (sym (take-length b))
+
 pub put-within-length : (out b : List ℕ) (at : ℕ) → length (putWithin out at b) ≡ length out
 put-within-length out b at = go (leb (at + length b) (length out)) refl
   where

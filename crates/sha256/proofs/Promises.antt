@@ -9,10 +9,10 @@ use lib.Dec.{ltb}
 use borrow.Author.Tests.{ltb-true, eq-eqb, ne-eqb, le-leb, lt-leb}
 use Rattle.sha256.specs.declared.State.{State}
 use Rattle.sha256.specs.declared.Stepped.the-variants.{Done, Refused}
-use Rattle.sha256.specs.Told.{done, refused}
+use Rattle.octets.specs.Answer.{done, refused}
 use Rattle.sha256.specs.Words.{wordFrom}
 use Rattle.sha256.specs.Sha256.{wordAfter, schedule, word, rounds, compress}
-use Rattle.sha256.specs.Answers.{stepNumber, stepTold, stepSchedule, fits, valueAfter, scheduleAfter}
+use Rattle.sha256.specs.Answers.{stepNumber, stepAnswer, stepSchedule, fits, valueAfter, scheduleAfter}
 use Rattle.sha256.specs.Claims.{StepLosesNothing}
 
 -- ---- a block and a schedule that fit are taken
@@ -22,18 +22,18 @@ module _ (s : State) (m w : List ℕ) (p : ℕ) (h : p + 64 ≤ length m) (k : l
   block-taken = let e = le-leb (p + 64) (length m) h in let f = eq-eqb (length w) 64 k in (simp (e, f), simp (e, f))
 
 module _ (m w : List ℕ) (h : length m ≡ 64) (k : length w ≡ 64) where
-  pub step-done : (s : State) → (done (compress s (wordFrom m 0)) ≡ stepTold s m w) × (schedule (wordFrom m 0) 64 ≡ stepSchedule m w)
-  unfolding stepNumber stepTold stepSchedule
+  pub step-done : (s : State) → (done (compress s (wordFrom m 0)) ≡ stepAnswer s m w) × (schedule (wordFrom m 0) 64 ≡ stepSchedule m w)
+  unfolding stepNumber stepAnswer stepSchedule
   step-done s = let e = eq-eqb (length m) 64 h in let f = eq-eqb (length w) 64 k in (simp (e, f), simp (e, f))
 
 -- ---- of any other nothing is taken
 module _ (s : State) (m w : List ℕ) where
-  pub step-5 : (length m ≡ 64 → ⊥) → (refused 5 ≡ stepTold s m w) × (w ≡ stepSchedule m w)
-  unfolding stepNumber stepTold stepSchedule
+  pub step-5 : (length m ≡ 64 → ⊥) → (refused 5 ≡ stepAnswer s m w) × (w ≡ stepSchedule m w)
+  unfolding stepNumber stepAnswer stepSchedule
   step-5 h = let e = ne-eqb (length m) 64 h in (simp e, simp e)
 
-  pub step-9 : length m ≡ 64 → (length w ≡ 64 → ⊥) → (refused 9 ≡ stepTold s m w) × (w ≡ stepSchedule m w)
-  unfolding stepNumber stepTold stepSchedule
+  pub step-9 : length m ≡ 64 → (length w ≡ 64 → ⊥) → (refused 9 ≡ stepAnswer s m w) × (w ≡ stepSchedule m w)
+  unfolding stepNumber stepAnswer stepSchedule
   step-9 h k = let e = eq-eqb (length m) 64 h in let f = ne-eqb (length w) 64 k in (simp (e, f), simp (e, f))
 
 module _ (s : State) (m w : List ℕ) (p : ℕ) where

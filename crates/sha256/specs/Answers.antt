@@ -7,7 +7,7 @@ use lib.ListN.{length}
 use Rattle.sha256.specs.declared.State.{State}
 use Rattle.sha256.specs.declared.Stepped.{Stepped}
 use Rattle.sha256.specs.declared.Stepped.the-variants.{Done, Refused}
-use Rattle.sha256.specs.Told.{Told, done, refused}
+use Rattle.octets.specs.Answer.{Answer, done, refused}
 use Rattle.sha256.specs.Words.{wordFrom}
 use Rattle.sha256.specs.Sha256.{compress, schedule}
 
@@ -17,14 +17,14 @@ use Rattle.sha256.specs.Sha256.{compress, schedule}
 unfoldable pub stepNumber : List ℕ → List ℕ → ℕ
 stepNumber m w = cond (eqb (length m) 64) (cond (eqb (length w) 64) 0 9) 5
 
--- what each case of the answer tells
-abbrev pub stepping : Stepped → Told State
+-- what each case of the enum answers
+abbrev pub stepping : Stepped → Answer State
 stepping (Done s) = done s
 stepping (Refused n) = refused n
 
--- what is told: the hash value after the block, or the number
-unfoldable pub stepTold : State → List ℕ → List ℕ → Told State
-stepTold s m w = let n = stepNumber m w in cond (eqb n 0) (done (compress s (wordFrom m 0))) (refused n)
+-- what is answered: the hash value after the block, or the number
+unfoldable pub stepAnswer : State → List ℕ → List ℕ → Answer State
+stepAnswer s m w = let n = stepNumber m w in cond (eqb n 0) (done (compress s (wordFrom m 0))) (refused n)
 
 -- the schedule after it: the block's 64 words, or as it was
 unfoldable pub stepSchedule : List ℕ → List ℕ → List ℕ

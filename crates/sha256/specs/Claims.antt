@@ -4,16 +4,16 @@ use mathlib.Core.List.{List}
 use Prim.Native.Nat.{ℕ, _+_, _≤_, _<_}
 use lib.ListN.{length}
 use Rattle.sha256.specs.declared.State.{State}
-use Rattle.sha256.specs.Told.{done, Faithful}
+use Rattle.octets.specs.Answer.{done, Faithful}
 use Rattle.sha256.specs.Words.{wordFrom}
 use Rattle.sha256.specs.Sha256.{compress, schedule}
-use Rattle.sha256.specs.Answers.{stepping, stepTold, stepSchedule, valueAfter, scheduleAfter}
+use Rattle.sha256.specs.Answers.{stepping, stepAnswer, stepSchedule, valueAfter, scheduleAfter}
 
 -- a block of 64 bytes and a schedule of 64 words are taken
 abbrev pub BlockIsTaken : Type 0
 BlockIsTaken =
     (m w : List ℕ) → length m ≡ 64 → length w ≡ 64 → (s : State) →
-    (done (compress s (wordFrom m 0)) ≡ stepTold s m w) × (schedule (wordFrom m 0) 64 ≡ stepSchedule m w)
+    (done (compress s (wordFrom m 0)) ≡ stepAnswer s m w) × (schedule (wordFrom m 0) 64 ≡ stepSchedule m w)
 
 -- and so is the block at byte p of a message
 abbrev pub BlockAtIsTaken : Type 0
@@ -25,6 +25,6 @@ BlockAtIsTaken =
 abbrev pub BySixteenWords : Type 0
 BySixteenWords = (x y : ℕ → ℕ) → ((t : ℕ) → t < 16 → x t ≡ y t) → (s : State) → compress s x ≡ compress s y
 
--- what the cases of the answer tell loses nothing
+-- what is said of the cases of the enum loses nothing
 abbrev pub StepLosesNothing : Type 0
 StepLosesNothing = Faithful stepping

@@ -1,8 +1,9 @@
 -- Words of 32 bits as numbers below 2 ^ 32, and how bytes make them (FIPS 180-4, sections 2.2.2, 3.1 and 3.2). Assumes nothing.
-use mathlib.Core.List.{List}
+use mathlib.Core.List.{List, [], _∷_}
 use Prim.Native.Nat.{ℕ, _+_, _-_, _*_, _/_, _%_, _^_}
 use lib.Bits.{bitOr}
 use lib.ListN.{getD}
+use Rattle.octets.specs.Numbers.{unbe}
 
 -- x + y modulo 2 ^ 32
 abbrev pub add32 : ℕ → ℕ → ℕ
@@ -19,11 +20,6 @@ rotr n x = bitOr (x / 2 ^ n) (x * 2 ^ (32 - n) % 2 ^ 32)
 abbrev pub not32 : ℕ → ℕ
 not32 x = 2 ^ 32 - 1 - x
 
--- a word of four bytes, the first the highest
-abbrev pub bigEndian : ℕ → ℕ → ℕ → ℕ → ℕ
-bigEndian a b c d = ((a * 256 + b) * 256 + c) * 256 + d
-
--- word t of what starts at byte p of m
+-- word t of what starts at byte p of m: the number of four bytes
 abbrev pub wordFrom : List ℕ → ℕ → ℕ → ℕ
-wordFrom m p t =
-    bigEndian (getD m (p + 4 * t) 0) (getD m (p + 4 * t + 1) 0) (getD m (p + 4 * t + 2) 0) (getD m (p + 4 * t + 3) 0)
+wordFrom m p t = unbe (getD m (p + 4 * t) 0 ∷ getD m (p + 4 * t + 1) 0 ∷ getD m (p + 4 * t + 2) 0 ∷ getD m (p + 4 * t + 3) 0 ∷ [])

@@ -1,12 +1,14 @@
 // SHA-256's block step and its first hash value (FIPS 180-4, sections 4.1.2, 4.2.2, 5.3.3 and 6.2.2). Padding, digests and the hashes of the tree are
 // the crate hash's.
 ghost use mathlib.Core.Path.{_≡_};
+ghost use mathlib.Core.List.{[], _∷_};
 ghost use Prim.Native.Nat.{_+_, _*_, _%_, _<_, _≤_};
 ghost use lib.ListN.{length};
-ghost use Rattle.sha256.specs.Words.{add32, bigEndian, wordFrom};
+ghost use Rattle.octets.specs.Numbers.{unbe};
+ghost use Rattle.sha256.specs.Words.{add32, wordFrom};
 ghost use Rattle.sha256.specs.Sha256.{choose, majority, bigSigma0, bigSigma1, smallSigma0, smallSigma1, constants, nextWord, t1Of, t2Of};
 ghost use Rattle.sha256.specs.Sha256.{round as roundOf, addState, compress as compressOf, schedule, initial as initialOf};
-ghost use Rattle.sha256.specs.Answers.{stepping, stepTold, stepSchedule, valueAfter, scheduleAfter};
+ghost use Rattle.sha256.specs.Answers.{stepping, stepAnswer, stepSchedule, valueAfter, scheduleAfter};
 ghost use Rattle.sha256.specs.Claims.{BlockIsTaken, BlockAtIsTaken, BySixteenWords, StepLosesNothing};
 ghost use Rattle.sha256.specs.Inner.{eightWith, eightFrom, Known, Longer, Ran};
 
@@ -277,8 +279,9 @@ fn add_state(v: State, s: State) -> State
     }
 }
 
+// A word of four bytes. Here and not a call of `octets`: it is made sixteen times for each block.
 fn big_endian(a: u8, b: u8, c: u8, d: u8) -> u32
-    ensures { λ r. ⌜ r ≡ bigEndian a b c d ⌝ }
+    ensures { λ r. ⌜ r ≡ unbe (a ∷ b ∷ c ∷ d ∷ []) ⌝ }
 {
     ((a as u32 * 256 + b as u32) * 256 + c as u32) * 256 + d as u32
 }
@@ -344,7 +347,7 @@ pub fn step_at(s: State, m: &[u8], p: usize, w: &mut [u32]) -> State
 
 // The block step: the hash value after a block, whose schedule is left in w. 5: the block is not 64 bytes. 9: w is not 64 words.
 pub fn step(s: State, m: &[u8], w: &mut [u32]) -> Stepped
-    ensures { λ r. ⌜ stepping r ≡ stepTold s (now (m .entry)) (now (w .entry)) ⌝ }
+    ensures { λ r. ⌜ stepping r ≡ stepAnswer s (now (m .entry)) (now (w .entry)) ⌝ }
     ensures { λ _. ⌜ now (w .exit) ≡ stepSchedule (now (m .entry)) (now (w .entry)) ⌝ }
 {
     if m.len() != 64 {

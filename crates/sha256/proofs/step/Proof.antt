@@ -3,7 +3,7 @@ use denote.Ref.{now}
 use mathlib.Core.Path.{_≡_, sym, ap, _∙_}
 use native.Mathlib.Omega.{arith}
 use lib.ListN.{length}
-use Rattle.sha256.specs.Told.{done}
+use Rattle.octets.specs.Answer.{done}
 use Rattle.sha256.proofs.Promises.{block-taken, step-done, step-5, step-9}
 use Rattle.sha256.proofs.step.Statement.{statement}
 use Rattle.sha256.proofs.step.Tie as tie
