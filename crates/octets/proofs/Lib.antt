@@ -1,3 +1,4 @@
+pub mod Order
 pub mod Sameness
 pub mod Putting
 pub mod Numbers

@@ -10,12 +10,13 @@ use borrow.Author.Tests.{ltb-false, leb-false, eqb-true, eqb-false, not-false}
 use Rattle.tree.specs.Limits.{largestSize}
 use Rattle.tree.specs.Count.{inclusionCount, consistencyCount}
 use Rattle.tree.specs.Yield.{inclusionRoot, oldRoot, newRoot}
-use Rattle.tree.specs.Joined.{nodes, same}
+use Rattle.octets.specs.Bytes.{same}
+use Rattle.tree.specs.Joined.{nodes}
 use Rattle.tree.specs.Verdict.{judged, noPlace, noSizes, inclusionVerdict, consistencyVerdict}
 use Rattle.tree.specs.Claims.{Inclusion, Consistency, Accepts, Equal}
 use Rattle.tree.proofs.Rfc.{equations}
 use Rattle.tree.proofs.Counting.{sub-all}
-use Rattle.tree.proofs.Joining.{same-true, same-of}
+use Rattle.octets.proofs.Sameness.{same-true, same-of}
 use Rattle.tree.proofs.Answering.{right-0, place-in, sizes-in, both-agree}
 
 -- a refusal that was not given: its test is false, and the rest is 0 too

@@ -12,7 +12,8 @@ use Rattle.tree.specs.Split.{split}
 use Rattle.tree.specs.Tree.{node, root, path, subproof, consistency}
 use Rattle.tree.specs.Yield.{init, last, inclusionRoot, oldRoot, newRoot}
 use Rattle.tree.specs.Equations.{left, right}
-use Rattle.tree.proofs.Splitting.{lt-or-ge, split-ends, split-same}
+use Rattle.octets.proofs.Order.{lt-or-ge}
+use Rattle.tree.proofs.Splitting.{split-ends, split-same}
 use Rattle.tree.proofs.Rfc.{init-snoc, last-snoc, length-left, length-right, by-parts, root-none, root-one, root-split, path-one, path-low, path-high, sub-all, sub-low, sub-high, yields-few, yields-low, yields-high, equations}
 use Rattle.tree.proofs.Joining.{All32, all-none, all-append, all-one, all-take, all-drop}
 

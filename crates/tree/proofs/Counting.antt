@@ -14,7 +14,8 @@ use Rattle.tree.specs.Split.{split, Shape, one, fork, size, shape}
 use Rattle.tree.specs.Tree.{rootOf, pathOf, path, subproofOf, subproof, consistency}
 use Rattle.tree.specs.Count.{inclusionCountOf, inclusionCount, subproofCountOf, subproofCount, consistencyCount}
 use Rattle.tree.specs.Claims.{Bounds, Counts}
-use Rattle.tree.proofs.Splitting.{lt-or-ge, split-ends, split-most, shape-few, shape-fork, size-shape}
+use Rattle.octets.proofs.Order.{lt-or-ge}
+use Rattle.tree.proofs.Splitting.{split-ends, split-most, shape-few, shape-fork, size-shape}
 use Rattle.tree.proofs.Rfc.{size-left, size-right}
 
 -- the inclusion path, by the split

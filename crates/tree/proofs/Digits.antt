@@ -15,7 +15,8 @@ use Rattle.tree.specs.Limits.{largestSize}
 use Rattle.tree.specs.Split.{split}
 use Rattle.tree.specs.Count.{inclusionCount, subproofCount, consistencyCount}
 use Rattle.tree.specs.Claims.{Reached}
-use Rattle.tree.proofs.Splitting.{lt-or-ge, split-ends, split-power, split-unique, by-splits}
+use Rattle.octets.proofs.Order.{lt-or-ge}
+use Rattle.tree.proofs.Splitting.{split-ends, split-power, split-unique, by-splits}
 use Rattle.tree.proofs.Counting.{count-few, count-low, count-high, inclusion-most, sub-few, sub-all, sub-some, down-low, down-high}
 
 power-below : (i j : ℕ) → 2 ^ i < 2 ^ j → i < j

@@ -2,7 +2,7 @@
 use mathlib.Core.Path.{_≡_, ap}
 use Prim.Native.Nat.{ℕ}
 use native.Mathlib.Omega.{arith}
-use Rattle.sha256.specs.Told.{Faithful}
+use Rattle.octets.specs.Answer.{Faithful}
 use Rattle.tree.specs.declared.build.Built.the-variants.{Wrote, Refused}
 use Rattle.tree.specs.Build.{building}
 

@@ -12,7 +12,8 @@ use Rattle.tree.specs.Split.{split}
 use Rattle.tree.specs.Tree.{node, root}
 use Rattle.tree.specs.Equations.{left, right}
 use Rattle.tree.specs.Full.{pairs, level}
-use Rattle.tree.proofs.Splitting.{lt-or-ge, split-ends, split-power, split-unique}
+use Rattle.octets.proofs.Order.{lt-or-ge}
+use Rattle.tree.proofs.Splitting.{split-ends, split-power, split-unique}
 use Rattle.tree.proofs.Rfc.{root-one, root-split, by-parts}
 
 -- the split of n is twice the split of half of n, rounded up

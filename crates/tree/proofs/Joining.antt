@@ -1,16 +1,16 @@
--- The laws of joined hashes, and of `same`. Assumes nothing.
+-- The laws of joined hashes. Assumes nothing.
 use mathlib.Core.Path.{_≡_, refl, sym, ap, ap₂, _∙_}
-use mathlib.Core.Bool.{Bool, true, false, false≢true, _&&_}
 use mathlib.Core.List.{List, [], _∷_, _++_, append-nil, append-assoc}
 use Prim.Native.Nat.{ℕ, zero, suc, _+_, _-_, _*_, _/_, _≤_, _<_}
 use native.Mathlib.Omega.{arith}
 use native.Mathlib.Nat.{zero-add, suc-add}
 use native.Mathlib.Numerals.{add-one}
-use lib.Dec.{leb, eqb}
 use lib.ListN.{length, take, drop, getD, length-append, length-take, length-drop}
-use lib.Seq.{take-at, drop-at, drop-drop, take-all, paste}
-use borrow.Author.Tests.{eq-eqb, eqb-true, le-leb, lt-leb}
-use Rattle.tree.specs.Joined.{firstNodes, nodes, nodeAt, nodesFrom, noHash, hashAt, copied, joined, same}
+use lib.Seq.{length-take-le, take-at, drop-at, drop-drop, take-all}
+use borrow.Author.Tests.{le-leb, lt-leb}
+use Rattle.octets.specs.Bytes.{copied}
+use Rattle.octets.proofs.Putting.{copied-put, put-whole}
+use Rattle.tree.specs.Joined.{firstNodes, nodes, nodeAt, nodesFrom, noHash, hashAt, joined}
 use Rattle.tree.specs.Yield.{init, last}
 use Rattle.tree.proofs.Rfc.{init-snoc, last-snoc}
 
@@ -88,25 +88,14 @@ pub hash-out : (i : ℕ) (s : List ℕ) → length s < 32 * i + 32 → hashAt i 
 unfolding hashAt
 hash-out i s h = rw (lt-leb (32 * i + 32) (length s) h)
 
+-- a hash that is copied out of a buffer that holds it
+pub hash-copied : (i : ℕ) (s z y : List ℕ) → 32 * i + 32 ≤ length s → length z ≡ 32 → y ≡ copied s (32 * i) 32 z 0 → y ≡ hashAt i s
+hash-copied i s z y h e f =
+    let l : length (nodeAt i s) ≡ 32 = length-take-le 32 (drop (32 * i) s) (rw length-drop (omega arith)) in
+    f ∙ copied-put s (32 * i) 32 z 0 h (omega arith) ∙ put-whole z (nodeAt i s) (e ∙ sym l) ∙ sym (hash-in i s h)
+
 pub whole-hash : (s : List ℕ) → length s ≡ 32 → hashAt 0 s ≡ s
 whole-hash s e = hash-in 0 s (omega arith) ∙ take-all 32 s (omega arith)
-
--- what is copied where both buffers reach far enough, and where one does not
-module _ (s : List ℕ) (from len : ℕ) (out : List ℕ) (at : ℕ) where
-  pub copied-in : leb (from + len) (length s) ≡ true → leb (at + len) (length out) ≡ true → copied s from len out at ≡ paste out at (drop from s) len
-  unfolding copied
-  copied-in p q = rw (p, q)
-
-  pub copied-short : leb (from + len) (length s) ≡ false → copied s from len out at ≡ out
-  unfolding copied
-  copied-short p = rw p
-
-  pub copied-full : leb (from + len) (length s) ≡ true → leb (at + len) (length out) ≡ false → copied s from len out at ≡ out
-  unfolding copied
-  copied-full p q = rw (p, q)
-
-  pub copied-fits : {y : List ℕ} → from + len ≤ length s → at + len ≤ length out → y ≡ copied s from len out at → y ≡ paste out at (drop from s) len
-  copied-fits p q e = e ∙ copied-in (le-leb (from + len) (length s) p) (le-leb (at + len) (length out) q)
 
 -- each hash has 32 bytes
 unfoldable pub All32 : List (List ℕ) → Type 0
@@ -175,36 +164,3 @@ nodes-joined l p =
     let e = joined-length l p in
     let f : length (joined l) / 32 ≡ length l = omega arith in
     nodes-first (joined l) ∙ rw f (first-joined l p)
-
--- one equality of byte strings
-and-left : (a b : Bool) → (a && b) ≡ true → a ≡ true
-and-left true b e = refl
-and-left false b e = e
-
-and-right : (a b : Bool) → (a && b) ≡ true → b ≡ true
-and-right true b e = e
-and-right false b e = absurd (false≢true e)
-
-pub same-refl : (s : List ℕ) → same s s ≡ true
-unfolding same
-same-refl [] = refl
-same-refl (x ∷ s) = rw (eq-eqb x x refl, same-refl s)
-
-pub same-true : (s t : List ℕ) → same s t ≡ true → s ≡ t
-unfolding same
-same-true [] [] e = refl
-same-true [] (y ∷ t) e = absurd (false≢true e)
-same-true (x ∷ s) [] e = absurd (false≢true e)
-same-true (x ∷ s) (y ∷ t) e = ap₂ _∷_ (eqb-true x y (and-left (eqb x y) (same s t) e)) (same-true s t (and-right (eqb x y) (same s t) e))
-
-pub same-of : (s t : List ℕ) → s ≡ t → same s t ≡ true
-same-of s t e = rw e (same-refl t)
-
--- a test that is true exactly where two byte strings are the same
-pub same-by : (r : Bool) (s t : List ℕ) → (r ≡ true → s ≡ t) → (s ≡ t → r ≡ true) → r ≡ same s t
-same-by true s t p q = sym (same-of s t (p refl))
-same-by false s t p q = go (same s t) refl
-  where
-    go : (b : Bool) → same s t ≡ b → false ≡ b
-    go true e = q (same-true s t e)
-    go false e = refl

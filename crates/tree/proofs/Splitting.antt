@@ -8,15 +8,9 @@ use native.Mathlib.Nat.{pow-succ', pow-le-pow-right}
 use lib.Count.{leadingZeros, leading-top}
 use lib.Dec.{ltb}
 use borrow.Author.Tests.{ltb-true, ltb-false, lt-ltb, le-ltb}
+use Rattle.octets.proofs.Order.{lt-or-ge}
 use Rattle.tree.specs.Split.{doubled, split, one, fork, size, shapeIn, shape}
 use Rattle.tree.specs.Equations.{SplitIs}
-
-pub lt-or-ge : (a b : ℕ) → (a < b) ⊎ (b ≤ a)
-lt-or-ge a b = go (ltb a b) refl
-  where
-    go : (t : Bool) → ltb a b ≡ t → (a < b) ⊎ (b ≤ a)
-    go true e = inl (ltb-true a b e)
-    go false e = inr (ltb-false a b e)
 
 doubled-more : (f k n : ℕ) → 2 * k < n → doubled (suc f) k n ≡ doubled f (2 * k) n
 unfolding doubled

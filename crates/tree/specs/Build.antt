@@ -1,11 +1,12 @@
 -- What the builders answer and what they leave in the lent output, over any hash H: the refusals in the order 10, 6, 9 of document 01.
 -- Assumes nothing: these are definitions.
 use mathlib.Core.Bool.{Bool, cond, not, _||_}
-use mathlib.Core.List.{List, _++_}
+use mathlib.Core.List.{List}
 use Prim.Native.Nat.{ℕ, _/_, _%_}
 use lib.Dec.{leb, ltb, eqb}
-use lib.ListN.{length, drop, replicate}
-use Rattle.sha256.specs.Told.{Told, done}
+use lib.ListN.{length, replicate}
+use Rattle.octets.specs.Bytes.{over}
+use Rattle.octets.specs.Answer.{Answer, done}
 use Rattle.tree.specs.declared.build.Built.{Built}
 use Rattle.tree.specs.declared.build.Built.the-variants.{Wrote, Refused}
 use Rattle.tree.specs.Limits.{mostLeaves}
@@ -18,18 +19,14 @@ pub data Outcome : Type 0 where
   wrote : List ℕ → Outcome
 
 -- what it tells: the number, or how many bytes were written
-unfoldable pub report : Outcome → Told ℕ
-report (refused n) = Told.refused n
+unfoldable pub report : Outcome → Answer ℕ
+report (refused n) = Answer.refused n
 report (wrote w) = done (length w)
 
 -- what each case of the code's answer tells
-abbrev pub building : Built → Told ℕ
-building (Refused n) = Told.refused n
+abbrev pub building : Built → Answer ℕ
+building (Refused n) = Answer.refused n
 building (Wrote n) = done n
-
--- a buffer whose first bytes are written over
-unfoldable pub over : List ℕ → List ℕ → List ℕ
-over w out = w ++ drop (length w) out
 
 -- the output after it: a refusal changes nothing, and the bytes past what was written stay
 unfoldable pub output : Outcome → List ℕ → List ℕ

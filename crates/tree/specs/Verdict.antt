@@ -8,7 +8,8 @@ use lib.ListN.{length}
 use Rattle.tree.specs.Limits.{largestSize}
 use Rattle.tree.specs.Count.{inclusionCount, consistencyCount}
 use Rattle.tree.specs.Yield.{inclusionRoot, oldRoot, newRoot}
-use Rattle.tree.specs.Joined.{nodes, same}
+use Rattle.octets.specs.Bytes.{same}
+use Rattle.tree.specs.Joined.{nodes}
 
 -- the order of the refusals, of a proof with two hash arguments: 5 for their lengths, 10 for a path of no whole hashes, 6 for numbers out
 -- of range, 7 for another count of nodes than the definition's, 8 for a root that disagrees

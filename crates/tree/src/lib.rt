@@ -11,7 +11,7 @@ mod refusal; // the numbers of the refusals
 pub mod split; // the two parts of a list
 pub mod yields; // the roots that a path yields
 
-ghost use Rattle.sha256.specs.Told.{Faithful};
+ghost use Rattle.octets.specs.Answer.{Faithful};
 ghost use Rattle.tree.specs.Build.{building};
 ghost use Rattle.tree.specs.Equations.{Equations};
 ghost use Rattle.tree.specs.Claims.{OfEvery, OfEvery32, Bounds, Reached, Counts, Accepts, Equal, Complete, FullSubtrees};

@@ -8,7 +8,7 @@ ghost use Prim.Native.Nat.{_+_, _*_, _≤_, _<_};
 ghost use lib.ListN.{length};
 ghost use lib.Seq.{paste};
 ghost use Rattle.hash.specs.Digest.{sha256};
-ghost use Rattle.tree.specs.Build.{over};
+ghost use Rattle.octets.specs.Bytes.{over};
 ghost use Rattle.tree.specs.Joined.{nodesFrom, joined};
 ghost use Rattle.tree.specs.Tree.{root, path, subproof};
 

@@ -4,7 +4,7 @@ use mathlib.Core.Logic.{⊎-elim}
 use Prim.Native.Nat.{_+_, _-_}
 use native.Mathlib.Omega.{arith}
 use borrow.Author.Tests.{le-leb, lt-leb}
-use Rattle.octets.proofs.Putting.{lt-or-ge}
+use Rattle.octets.proofs.Order.{lt-or-ge}
 use Rattle.octets.proofs.writing.reaches.Statement.{statement}
 use Rattle.octets.proofs.writing.reaches.Tie as tie
 

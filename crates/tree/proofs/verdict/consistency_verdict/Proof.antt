@@ -9,7 +9,8 @@ use borrow.Author.Tests.{not-true, not-false}
 use Rattle.hash.specs.Digest.{sha256}
 use Rattle.tree.specs.Count.{consistencyCount}
 use Rattle.tree.specs.Yield.{oldRoot, newRoot}
-use Rattle.tree.specs.Joined.{firstNodes, nodes, hashAt, same}
+use Rattle.octets.specs.Bytes.{same}
+use Rattle.tree.specs.Joined.{firstNodes, nodes, hashAt}
 use Rattle.tree.proofs.Joining.{whole-hash, nodes-first}
 use Rattle.tree.specs.Verdict.{consistencyVerdict}
 use Rattle.tree.proofs.Answering.{one-5, two-5, path-10, outside-6, count-7, other-8, right-0, sizes-none, sizes-past, sizes-in, first-apart, second-apart, both-agree}

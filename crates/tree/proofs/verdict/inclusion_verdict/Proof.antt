@@ -7,7 +7,8 @@ use lib.ListN.{length}
 use borrow.Author.Tests.{not-true, not-false}
 use Rattle.hash.specs.Digest.{sha256}
 use Rattle.tree.specs.Yield.{inclusionRoot}
-use Rattle.tree.specs.Joined.{firstNodes, nodes, hashAt, same}
+use Rattle.octets.specs.Bytes.{same}
+use Rattle.tree.specs.Joined.{firstNodes, nodes, hashAt}
 use Rattle.tree.proofs.Joining.{whole-hash, nodes-first}
 use Rattle.tree.specs.Verdict.{inclusionVerdict}
 use Rattle.tree.proofs.Answering.{one-5, two-5, path-10, outside-6, count-7, other-8, right-0, place-none, place-past, place-in}
