@@ -9,7 +9,8 @@ use lib.Dec.{ltb, eqb}
 use lib.ListN.{length}
 use borrow.Author.Tests.{ltb-true, ltb-false}
 use Rattle.hash.specs.Digest.{sha256}
-use Rattle.hash.specs.Answers.{mostItem, valueNumber, valueBytes}
+use Rattle.octets.specs.Limits.{mostItem}
+use Rattle.hash.specs.Answers.{valueNumber, valueBytes}
 
 -- a leaf hash is refused exactly where the page is too long, and then with 1
 pub refused-1 : (page : List ℕ) (n : ℕ) → n ≡ valueNumber mostItem page → (n ≡ 0 → ⊥) → (ltb mostItem (length page) ≡ true) × (n ≡ 1)

@@ -2,7 +2,7 @@
 use mathlib.Core.Path.{_≡_, refl, ap}
 use Prim.Native.Nat.{ℕ}
 use native.Mathlib.Omega.{arith}
-use Rattle.sha256.specs.Told.{Faithful}
+use Rattle.octets.specs.Answer.{Faithful}
 use Rattle.auditor.specs.declared.dispute.Settled.the-variants.{Same, Nodes, Pages, Refused}
 use Rattle.auditor.specs.declared.journal.Appended.the-variants as appended
 use Rattle.auditor.specs.Dispute.{settling}

@@ -14,7 +14,7 @@ use Rattle.auditor.specs.declared.dispute.Settled.the-variants.{Same, No
 use Rattle.auditor.specs.declared.journal.Appended.the-variants.{Used}
 use Rattle.hash.specs.Digest.{sha256}
 use Rattle.tree.specs.Build.{Outcome, wrote}
-use Rattle.item.specs.Steps.{put}
+use Rattle.octets.specs.Bytes.{put}
 use Rattle.auditor.specs.Held.{none}
 use Rattle.auditor.specs.Offer.{offered}
 use Rattle.auditor.specs.Page.{asked}
@@ -22,7 +22,7 @@ use Rattle.auditor.specs.Heads.{lastSize, lastRoot, joinedHeads, headsOf
 use Rattle.auditor.specs.Calls.{Call, offer, ask, Entry, answered, called, answers, final, heads}
 use Rattle.auditor.specs.Dispute.{Ruling, samePage, ofNodes, ofPages, settling, report as outcome, pairAfter, dispute}
 use Rattle.auditor.specs.Demand.{Tells, Settles, WhateverGiven, Demand3}
-use Rattle.sha256.specs.Told.{Told, done, refused}
+use Rattle.octets.specs.Answer.{Answer, done, refused}
 use Rattle.auditor.specs.Journal.{append, report, journalAfter}
 use Rattle.auditor.specs.Keeping.{kept, noted, onward, journaled, AsKept}
 use Rattle.auditor.proofs.Settling.{whatever-given, demand3}
@@ -171,13 +171,13 @@ ref : List ℕ → RefT (List ℕ)
 ref l = record { ptr = (0, 0); name = 0; now = l }
 
 -- the code's answer that tells this
-said : Told Ruling → Settled
+said : Answer Ruling → Settled
 said (done samePage) = Same
 said (done ofNodes) = Nodes
 said (done ofPages) = Pages
 said (refused n) = Refused n
 
-said-is : (t : Told Ruling) → settling (said t) ≡ t
+said-is : (t : Answer Ruling) → settling (said t) ≡ t
 unfolding said
 said-is (done samePage) = refl
 said-is (done ofNodes) = refl

@@ -13,14 +13,14 @@ use borrow.Author.Tests.{eqb-true}
 use Rattle.hash.specs.Digest.{sha256}
 use Rattle.tree.specs.Limits.{mostNodes}
 use Rattle.tree.specs.Build.{Outcome, refused, wrote, into}
-use Rattle.tree.proofs.Splitting.{lt-or-ge}
+use Rattle.octets.proofs.Order.{lt-or-ge}
 use Rattle.tree.proofs.Building.{short, long}
 use Rattle.tree.proofs.Counting.{bounds}
 use Rattle.tree.proofs.Accepting.{pass, consistency-accepted}
-use Rattle.item.specs.Layout.{be}
-use Rattle.item.specs.Steps.{put}
-use Rattle.item.proofs.Digits.{be-length}
-use Rattle.item.proofs.Putting.{put-length}
+use Rattle.octets.specs.Numbers.{be}
+use Rattle.octets.specs.Bytes.{put}
+use Rattle.octets.proofs.Numbers.{be-length}
+use Rattle.octets.proofs.Putting.{put-length}
 use Rattle.auditor.specs.declared.Record.{Record}
 use Rattle.auditor.specs.Held.{Held, empty, head, view, none}
 use Rattle.auditor.specs.Offer.{outside, first, byRecord, offerNumber, keptRecord, offered}

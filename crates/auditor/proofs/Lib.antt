@@ -1,6 +1,5 @@
 -- The laws, one subject a file, each from those above it; crates above cite them. The proofs of the functions are in the folders.
 pub mod Enums
-pub mod Copying
 pub mod Offering
 pub mod Asking
 pub mod Reading

@@ -8,11 +8,10 @@ use lib.Dec.{ltb, eqb}
 use lib.ListN.{length, replicate}
 use borrow.Author.Tests.{eq-eqb, le-ltb, ltb-false, eqb-true, not-false}
 use Rattle.hash.specs.Digest.{sha256}
-use Rattle.tree.specs.Joined.{same}
-use Rattle.tree.specs.Build.{over}
+use Rattle.octets.specs.Bytes.{same, over}
 use Rattle.tree.specs.Verdict.{consistencyVerdict}
 use Rattle.tree.proofs.Accepting.{pass}
-use Rattle.tree.proofs.Joining.{same-true, same-of}
+use Rattle.octets.proofs.Sameness.{same-true, same-of}
 use Rattle.auditor.specs.declared.Record.{Record}
 use Rattle.auditor.specs.declared.Answered.{Answered}
 use Rattle.auditor.specs.Held.{Held, empty, head, idOf, view, holding}

@@ -10,13 +10,15 @@ use lib.ListN.{length, take, drop, getD, length-take, length-map, take-append-dr
 use lib.Seq.{take-at, take-take, getD-take}
 use borrow.Author.Tests.{le-ltb, eq-eqb, ne-eqb, eqb-true}
 use Rattle.hash.specs.Digest.{sha256}
-use Rattle.hash.specs.Answers.{mostItem}
+use Rattle.octets.specs.Limits.{mostItem}
 use Rattle.hash.proofs.Promises.{sha256-length}
 use Rattle.tree.specs.Limits.{largestSize}
 use Rattle.tree.specs.Tree.{leaf, root, path, consistency}
-use Rattle.tree.specs.Joined.{nodes, joined, same}
+use Rattle.octets.specs.Bytes.{same}
+use Rattle.tree.specs.Joined.{nodes, joined}
 use Rattle.tree.specs.Verdict.{inclusionVerdict, consistencyVerdict}
-use Rattle.tree.proofs.Joining.{All32, all-take, all-nodes, nodes-joined, joined-append, joined-length, same-refl, same-of}
+use Rattle.octets.proofs.Sameness.{same-refl, same-of}
+use Rattle.tree.proofs.Joining.{All32, all-take, all-nodes, nodes-joined, joined-append, joined-length}
 use Rattle.tree.proofs.Counting.{bounds}
 use Rattle.tree.proofs.Completing.{root-32}
 use Rattle.tree.proofs.Accepting.{inclusion-accepted, consistency-accepted}
@@ -24,7 +26,7 @@ use Rattle.carry.specs.Forward.{carried, carry}
 use Rattle.carry.specs.Compare.{compare}
 use Rattle.carry.proofs.Comparing.{comparing}
 use Rattle.carry.proofs.Honest.{own-inclusion, own-consistency, own-carried}
-use Rattle.sha256.specs.Told.{Told}
+use Rattle.octets.specs.Answer.{Answer}
 use Rattle.auditor.specs.Held.{Held, empty, head, none}
 use Rattle.auditor.specs.Offer.{outside, first, against, byRecord, offerNumber, kept}
 use Rattle.auditor.specs.Page.{pageNumber}
@@ -268,7 +270,7 @@ module _ (id : List ℕ) (pages : List (List ℕ)) (all : length pages ≤ large
         rw (p .0, p .2, root, e, le-ltb mostItem (length item) (items place), le-ltb mostItem (length item₂) i, own-accepted m le place (p .1))
         (follows es fs m place pair item₂ w₂ (p .1) le l (g .1))
 
-said : (f : Finding) → f ≡ alike → report f ≡ Told.done Ruling.samePage
+said : (f : Finding) → f ≡ alike → report f ≡ Answer.done Ruling.samePage
 unfolding report
 said f e = rw e
 

@@ -10,13 +10,12 @@ use lib.ListN.{length, take, drop}
 use lib.Seq.{take-at, drop-at}
 use borrow.Author.Tests.{eqb-true, ltb-false, le-ltb}
 use Rattle.hash.specs.Digest.{sha256}
-use Rattle.hash.specs.Answers.{mostItem}
+use Rattle.octets.specs.Limits.{mostItem}
 use Rattle.hash.proofs.Promises.{sha256-length}
-use Rattle.tree.specs.Joined.{same}
-use Rattle.tree.specs.Build.{over}
+use Rattle.octets.specs.Bytes.{same, over}
 use Rattle.tree.specs.Count.{inclusionCount}
 use Rattle.tree.specs.Verdict.{inclusionVerdict, consistencyVerdict}
-use Rattle.tree.proofs.Joining.{same-true, same-refl}
+use Rattle.octets.proofs.Sameness.{same-true, same-refl}
 use Rattle.tree.proofs.Counting.{bounds}
 use Rattle.tree.proofs.Accepting.{inclusion-accepted, consistency-accepted}
 use Rattle.carry.specs.Strings.{Collides}
@@ -25,7 +24,7 @@ use Rattle.carry.specs.Compare.{Comparison, compare}
 use Rattle.carry.proofs.Comparing.{opened, is-equal, comparing}
 use Rattle.carry.proofs.Refusing.{passed}
 use Rattle.carry.proofs.Carrying.{carrying}
-use Rattle.sha256.specs.Told.{Told}
+use Rattle.octets.specs.Answer.{Answer}
 use Rattle.auditor.specs.Held.{Held, empty, head, none}
 use Rattle.auditor.specs.Heads.{Heads, end, cut, then, lastSize, lastRoot, joinedHeads, headsOf}
 use Rattle.auditor.specs.Dispute.{Finding, refused, alike, nodes, pages, onward, settled, longestPath, follow, dispute, unless, report, pairAfter}
@@ -235,7 +234,7 @@ tells page₁ page₂ (nodes s t) pair w =
     rw (a, b) (record { different = w .different; one-value = w .one-hash })
 tells page₁ page₂ pages pair w = w
 
-report-refused : (d : Finding) (n : ℕ) → report d ≡ Told.refused n → d ≡ refused n
+report-refused : (d : Finding) (n : ℕ) → report d ≡ Answer.refused n → d ≡ refused n
 unfolding report
 report-refused (refused k) n e = let f : k ≡ n = cc in ap refused f
 report-refused alike n e = absurd (let y : _≡_ {A = ℕ} 0 1 = cc in omega arith)

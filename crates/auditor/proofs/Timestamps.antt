@@ -9,7 +9,7 @@ use lib.ListN.{length}
 use borrow.Author.Tests.{ltb-false, ne-eqb, eqb-false}
 use Rattle.hash.specs.Digest.{sha256}
 use Rattle.tree.specs.Limits.{largestSize}
-use Rattle.tree.specs.Joined.{same}
+use Rattle.octets.specs.Bytes.{same}
 use Rattle.tree.specs.Verdict.{consistencyVerdict}
 use Rattle.tree.proofs.Answering.{count-7, sizes-in}
 use Rattle.tree.proofs.Accepting.{pass, consistency-accepted, equal}

@@ -5,13 +5,13 @@ use mathlib.Core.List.{List, [], _∷_, _++_, map}
 use Prim.Native.Nat.{ℕ, zero, suc, _*_, _≤_, _<_}
 use lib.ListN.{length, take, getD}
 use Rattle.hash.specs.Digest.{sha256}
-use Rattle.hash.specs.Answers.{mostItem}
+use Rattle.octets.specs.Limits.{mostItem}
 use Rattle.tree.specs.Limits.{largestSize}
 use Rattle.tree.specs.Tree.{leaf, root, path, consistency}
 use Rattle.tree.specs.Joined.{nodes, joined}
 use Rattle.growing.specs.Hashes.{fresh, rootNow}
 use Rattle.growing.specs.Calls as growing
-use Rattle.sha256.specs.Told.{Told}
+use Rattle.octets.specs.Answer.{Answer}
 use Rattle.auditor.specs.declared.Record.{Record}
 use Rattle.auditor.specs.Held.{Held, empty, head, view, none}
 use Rattle.auditor.specs.Heads.{lastSize, lastRoot, joinedHeads, headsOf}
@@ -68,7 +68,7 @@ pub record HonestFor (id : List ℕ) (pages : List (List ℕ)) (calls : List Cal
   pub same :
       (before between rest : List Entry) (place : ℕ) (page₁ path₁ page₂ path₂ pair : List ℕ) →
       answers none calls ≡ before ++ (answered (ask place page₁ path₁) 0 ∷ (between ++ (answered (ask place page₂ path₂) 0 ∷ rest))) → 130 ≤ length pair →
-      report (dispute sha256 page₁ place path₁ (lastSize 0 (heads before)) (lastRoot [] (heads before)) (headsOf (joinedHeads (heads between))) page₂ path₂ (length pair)) ≡ Told.done Ruling.samePage
+      report (dispute sha256 page₁ place path₁ (lastSize 0 (heads before)) (lastRoot [] (heads before)) (headsOf (joinedHeads (heads between))) page₂ path₂ (length pair)) ≡ Answer.done Ruling.samePage
 
 abbrev pub HonestLog : Type 0
 HonestLog =

@@ -6,14 +6,13 @@ use mathlib.Core.List.{List, _∷_, _++_}
 use Prim.Native.Nat.{ℕ, _*_}
 use lib.Dec.{ltb, eqb}
 use lib.ListN.{length, take, drop}
-use Rattle.hash.specs.Answers.{mostItem}
+use Rattle.octets.specs.Limits.{mostItem}
 use Rattle.tree.specs.Limits.{mostNodes}
-use Rattle.tree.specs.Build.{over}
-use Rattle.tree.specs.Joined.{same}
+use Rattle.octets.specs.Bytes.{over, same}
 use Rattle.tree.specs.Verdict.{inclusionVerdict}
 use Rattle.carry.specs.Forward.{Forward, carry}
 use Rattle.carry.specs.Compare.{Comparison, compare}
-use Rattle.sha256.specs.Told.{Told, done}
+use Rattle.octets.specs.Answer.{Answer, done}
 use Rattle.auditor.specs.declared.dispute.Settled.{Settled}
 use Rattle.auditor.specs.declared.dispute.Settled.the-variants.{Same, Nodes, Pages, Refused}
 use Rattle.auditor.specs.Heads.{Heads, end, cut, then}
@@ -36,15 +35,15 @@ pub data Ruling : Type 0 where
   ofPages : Ruling
 
 -- what it tells
-unfoldable pub report : Finding → Told Ruling
-report (refused n) = Told.refused n
+unfoldable pub report : Finding → Answer Ruling
+report (refused n) = Answer.refused n
 report alike = done samePage
 report (nodes s t) = done ofNodes
 report pages = done ofPages
 
 -- what each case of the code's answer tells
-abbrev pub settling : Settled → Told Ruling
-settling (Refused n) = Told.refused n
+abbrev pub settling : Settled → Answer Ruling
+settling (Refused n) = Answer.refused n
 settling Same = done samePage
 settling Nodes = done ofNodes
 settling Pages = done ofPages

@@ -5,7 +5,7 @@ use mathlib.Core.List.{List, [], _++_}
 use Prim.Native.Nat.{ℕ, zero, suc, _+_, _-_, _*_, _/_}
 use lib.Dec.{ltb, eqb}
 use lib.ListN.{length, take, drop}
-use Rattle.item.specs.Layout.{be, unbe}
+use Rattle.octets.specs.Numbers.{be, unbe}
 
 -- `cut` where a buffer ends within a head
 pub data Heads : Type 0 where

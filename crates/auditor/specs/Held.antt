@@ -3,7 +3,7 @@ use mathlib.Core.Bool.{true, false, cond}
 use mathlib.Core.List.{List}
 use Prim.Native.Nat.{ℕ, zero, suc}
 use lib.ListN.{length, take, replicate}
-use Rattle.tree.specs.Build.{over}
+use Rattle.octets.specs.Bytes.{over}
 use Rattle.auditor.specs.declared.Record.{Record}
 use Rattle.auditor.specs.declared.Answered.{Answered}
 

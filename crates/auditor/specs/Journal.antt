@@ -5,8 +5,8 @@ use Prim.Native.Nat.{ℕ, _+_, _-_, _*_, _%_}
 use lib.Dec.{ltb, eqb}
 use lib.ListN.{length}
 use Rattle.tree.specs.Build.{Outcome, refused, wrote, into}
-use Rattle.item.specs.Steps.{put}
-use Rattle.sha256.specs.Told.{Told, done}
+use Rattle.octets.specs.Bytes.{put}
+use Rattle.octets.specs.Answer.{Answer, done}
 use Rattle.auditor.specs.declared.journal.Appended.{Appended}
 use Rattle.auditor.specs.declared.journal.Appended.the-variants.{Used, Refused}
 use Rattle.auditor.specs.Heads.{end, then, joinedHeads}
@@ -24,8 +24,8 @@ append room used size root path =
     (into (room - used) (joinedHeads (then size root path end))))
 
 -- what it tells: the number, or how many bytes are used after it
-unfoldable pub report : ℕ → Outcome → Told ℕ
-report used (refused n) = Told.refused n
+unfoldable pub report : ℕ → Outcome → Answer ℕ
+report used (refused n) = Answer.refused n
 report used (wrote w) = done (used + length w)
 
 -- the buffer after it: a refusal changes nothing, and the bytes before and after the head stay
@@ -34,6 +34,6 @@ journalAfter used (refused n) b = b
 journalAfter used (wrote w) b = put b used w
 
 -- what each case of the code's answer tells
-abbrev pub appending : Appended → Told ℕ
+abbrev pub appending : Appended → Answer ℕ
 appending (Used n) = done n
-appending (Refused n) = Told.refused n
+appending (Refused n) = Answer.refused n

@@ -6,7 +6,7 @@ use Prim.Native.Nat.{ℕ, zero, suc, _+_, _*_, _≤_}
 use lib.ListN.{length, take, drop}
 use Rattle.hash.specs.Digest.{sha256}
 use Rattle.tree.specs.Limits.{mostNodes}
-use Rattle.sha256.specs.Told.{Told, done, refused}
+use Rattle.octets.specs.Answer.{Answer, done, refused}
 use Rattle.auditor.specs.declared.Record.{Record}
 use Rattle.auditor.specs.Held.{none}
 use Rattle.auditor.specs.Heads.{joinedHeads, headsOf, howMany}
@@ -21,7 +21,7 @@ pub data Journal : Type 0 where
   lost : ℕ → Journal
 
 -- after an append: the buffer, and what the append told
-unfoldable pub noted : List ℕ → Told ℕ → Journal
+unfoldable pub noted : List ℕ → Answer ℕ → Journal
 noted bytes (done used) = kept bytes used
 noted bytes (refused n) = lost n
 

@@ -5,8 +5,7 @@ ghost use mathlib.Core.Bool.{not, _&&_};
 ghost use lib.Dec.{eqb};
 ghost use Prim.Native.Nat.{_≤_};
 ghost use lib.ListN.{length, replicate};
-ghost use Rattle.tree.specs.Build.{over};
-ghost use Rattle.tree.specs.Joined.{same};
+ghost use Rattle.octets.specs.Bytes.{over, same};
 ghost use Rattle.auditor.specs.Held.{idOf};
 
 pub(crate) fn no_id() -> [u8; 127]
@@ -26,7 +25,7 @@ pub(crate) fn copy(s: &[u8], out: &mut [u8])
     requires { ⌜ length (now s) ≤ length (now out) ⌝ }
     ensures { λ _. ⌜ now (out .exit) ≡ over (now (s .entry)) (now (out .entry)) ⌝ }
 {
-    tree::nodes::copy(s, 0, s.len(), out, 0);
+    octets::put(out, 0, s);
 }
 
 // A log id, with zeros after it.
@@ -49,12 +48,6 @@ pub(crate) fn root_of(s: &[u8]) -> [u8; 32]
     a
 }
 
-pub(crate) fn equal(a: &[u8], b: &[u8]) -> bool
-    ensures { λ r. ⌜ r ≡ same (now (a .entry)) (now (b .entry)) ⌝ }
-{
-    check::same(a, b)
-}
-
 // Whether a record's log id is this one.
 pub(crate) fn same_log<'a>(r: Record, id: &'a [u8]) -> bool
     ensures { λ b. ⌜ b ≡ same (idOf r) (now (id .entry)) ⌝ }
@@ -62,9 +55,9 @@ pub(crate) fn same_log<'a>(r: Record, id: &'a [u8]) -> bool
     let n = r.idlen;
     let own = r.id;
     if 127 < n {
-        return equal(&own, id);
+        return octets::same(&own, id);
     }
-    equal(&own[..n], id)
+    octets::same(&own[..n], id)
 }
 
 // Whether a size is the record's, and the root another.
@@ -75,5 +68,5 @@ pub(crate) fn other_root<'a>(r: Record, size: u64, root: &'a [u8]) -> bool
     if size != r.size {
         return false;
     }
-    !equal(root, &own)
+    !octets::same(root, &own)
 }

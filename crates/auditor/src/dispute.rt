@@ -1,6 +1,5 @@
 // The dispute about two pages that were accepted at one place.
 use super::bytes::copy;
-use super::bytes::equal;
 use super::bytes::root_of;
 use super::heads::head_bytes;
 use super::heads::size_of;
@@ -94,7 +93,7 @@ fn settle(
         Compared::Refused(n) => return Settled::Refused(n),
         Compared::Collision => return Settled::Nodes,
         Compared::Same => {
-            if equal(page1, page2) {
+            if octets::same(page1, page2) {
                 return Settled::Same;
             }
             Settled::Pages

@@ -1,5 +1,7 @@
 // Heads joined in a buffer: of each the size in 8 bytes, the root in 32, the count of nodes in 2, and the nodes of its consistency path. Numbers
 // are big-endian.
+use octets::Width;
+use octets::number_at;
 ghost use mathlib.Core.Path.{_≡_};
 ghost use Prim.Native.Nat.{_≤_, _<_};
 ghost use lib.ListN.{length};
@@ -10,7 +12,7 @@ pub(crate) fn size_of(s: &[u8]) -> u64
     requires { ⌜ 42 ≤ length (now s) ⌝ }
     ensures { λ r. ⌜ r ≡ sizeOf (now (s .entry)) ⌝ }
 {
-    item::big_endian(&s[..8])
+    number_at(s, 0, Width::Eight)
 }
 
 // The count of nodes of the first head.
@@ -18,7 +20,7 @@ fn count_of(s: &[u8]) -> u64
     requires { ⌜ 42 ≤ length (now s) ⌝ }
     ensures { λ r. ⌜ (r ≡ countOf (now (s .entry))) × (r < 65536) ⌝ }
 {
-    item::big_endian(&s[40..42])
+    number_at(s, 40, Width::Two)
 }
 
 // How many bytes the first head has, or 0 where it is cut short.

@@ -1,10 +1,11 @@
 // The journal: heads joined in a lent buffer, in the order in which they were accepted.
-use item::be8;
-use tree::nodes::copy;
+use octets::Width;
+use octets::put;
+use octets::put_number;
 ghost use mathlib.Core.Path.{_≡_};
 ghost use Prim.Native.Nat.{_+_, _*_, _%_, _≤_};
 ghost use lib.ListN.{length};
-ghost use Rattle.item.specs.Steps.{put};
+ghost use Rattle.octets.specs.Bytes.{put as putBytes};
 ghost use Rattle.auditor.specs.Heads.{end, then, joinedHeads};
 ghost use Rattle.auditor.specs.Journal.{mostCount, report, journalAfter, appending};
 ghost use Rattle.auditor.specs.Journal as paper;
@@ -21,15 +22,13 @@ pub enum Appended {
 // Writes a head behind what is used: its size, its root, its count of nodes and the nodes.
 fn join(journal: &mut [u8], used: usize, size: u64, root: &[u8], path: &[u8])
     requires { ⌜ (length (now root) ≡ 32) × (length (now path) ≤ 32 * mostCount) × (length (now path) % 32 ≡ 0) × (used + (42 + length (now path)) ≤ length (now journal)) ⌝ }
-    ensures { λ _. ⌜ now (journal .exit) ≡ put (now (journal .entry)) used (joinedHeads (then size (now (root .entry)) (now (path .entry)) end)) ⌝ }
+    ensures { λ _. ⌜ now (journal .exit) ≡ putBytes (now (journal .entry)) used (joinedHeads (then size (now (root .entry)) (now (path .entry)) end)) ⌝ }
 {
     let n = path.len();
-    let digits = be8(size);
-    let count = be8((n / 32) as u64);
-    copy(&digits, 0, 8, journal, used);
-    copy(root, 0, 32, journal, used + 8);
-    copy(&count, 6, 2, journal, used + 40);
-    copy(path, 0, n, journal, used + 42);
+    put_number(journal, used, Width::Eight, size);
+    put(journal, used + 8, root);
+    put_number(journal, used + 40, Width::Two, (n / 32) as u64);
+    put(journal, used + 42, path);
 }
 
 // Joins an accepted head on, by the arguments of its offer, in a buffer of which so many bytes are used. Order: 5 for a root not of 32 bytes or a path of

@@ -11,7 +11,7 @@ pub mod journal;
 pub mod page;
 
 ghost use mathlib.Core.Path.{_≡_};
-ghost use Rattle.sha256.specs.Told.{Faithful};
+ghost use Rattle.octets.specs.Answer.{Faithful};
 ghost use Rattle.auditor.specs.Dispute.{settling};
 ghost use Rattle.auditor.specs.Journal.{appending};
 ghost use Rattle.auditor.specs.Held.{none, stayed};

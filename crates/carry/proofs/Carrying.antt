@@ -14,12 +14,12 @@ use Rattle.tree.specs.Count.{inclusionCount, subproofCount, consistencyCount}
 use Rattle.tree.specs.Yield.{inclusionRoot, oldRoot, newRoot}
 use Rattle.tree.specs.Joined.{firstNodes, nodes, nodesFrom, joined, hashAt}
 use Rattle.tree.specs.Verdict.{inclusionVerdict, consistencyVerdict}
-use Rattle.tree.specs.Build.{over}
+use Rattle.octets.specs.Bytes.{over}
 use Rattle.tree.proofs.Counting.{bounds}
 use Rattle.tree.proofs.Accepting.{inclusion-accepted, inclusion-accepts, consistency-accepted, consistency-accepts}
 use Rattle.tree.proofs.Joining.{All32, nodes-first, nodes-length, all-nodes, whole-hash, first-length, joined-append, joined-length, nodes-joined}
 use Rattle.carry.proofs.Refusing.{accepted, passed}
-use Rattle.sha256.specs.Told.{Told, done}
+use Rattle.octets.specs.Answer.{Answer, done}
 use Rattle.carry.specs.Strings.{Difference, alike, apart, Collides}
 use Rattle.carry.specs.Forward.{Forward, refused, carried, collision, Moved, report, pathAfter, pairAfter, unless, settled, conflict, forward, carry}
 use Rattle.carry.specs.Carries.{Carrying}
@@ -89,7 +89,7 @@ module _ (H : List ℕ → List ℕ) (leaf : List ℕ) (place m n : ℕ) (root�
           long l = rw (← e, ← g, eq-eqb v 0 z, eq-eqb w 0 y, le-ltb room (32 * inclusionCount place n) r, le-ltb pair 130 l)
 
 -- what is told and the buffers, by what is carried
-pub tells-refused : {c : Forward} {k : ℕ} (o b : List ℕ) → c ≡ refused k → (Told.refused k ≡ report c) × ((o ≡ pathAfter c o) × (b ≡ pairAfter c b))
+pub tells-refused : {c : Forward} {k : ℕ} (o b : List ℕ) → c ≡ refused k → (Answer.refused k ≡ report c) × ((o ≡ pathAfter c o) × (b ≡ pairAfter c b))
 unfolding report pathAfter pairAfter
 tells-refused o b e = rw e (refl, (refl, refl))
 
@@ -142,10 +142,10 @@ either-of v w c h = go (eqb v 0) refl (eqb w 0) refl
     go true e false f = refl
     go false e b f = refl
 
-pub refusal-first : {r v : ℕ} (w : ℕ) → r ≡ v → (r ≡ 0 → ⊥) → _≡_ {A = Told Moved} (Told.refused r) (Told.refused (either v w))
+pub refusal-first : {r v : ℕ} (w : ℕ) → r ≡ v → (r ≡ 0 → ⊥) → _≡_ {A = Answer Moved} (Answer.refused r) (Answer.refused (either v w))
 refusal-first {r = r} w e z = rw (← e, ne-eqb r 0 z)
 
-pub refusal-second : {r v s w : ℕ} → r ≡ v → r ≡ 0 → s ≡ w → _≡_ {A = Told Moved} (Told.refused s) (Told.refused (either v w))
+pub refusal-second : {r v s w : ℕ} → r ≡ v → r ≡ 0 → s ≡ w → _≡_ {A = Answer Moved} (Answer.refused s) (Answer.refused (either v w))
 refusal-second {r = r} e z f = rw (← e, eq-eqb r 0 z, f)
 
 module _ (H : List ℕ → List ℕ) (leaf : List ℕ) (place m n : ℕ) (root₁ root₂ path proof : List ℕ) where

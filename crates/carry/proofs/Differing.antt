@@ -10,11 +10,13 @@ use Rattle.tree.specs.Split.{split}
 use Rattle.tree.specs.Tree.{node}
 use Rattle.tree.specs.Count.{inclusionCount}
 use Rattle.tree.specs.Yield.{init, last, inclusionRoot}
-use Rattle.tree.specs.Joined.{same}
-use Rattle.tree.proofs.Splitting.{lt-or-ge, split-ends, by-splits}
+use Rattle.octets.specs.Bytes.{same}
+use Rattle.octets.proofs.Order.{lt-or-ge}
+use Rattle.tree.proofs.Splitting.{split-ends, by-splits}
 use Rattle.tree.proofs.Rfc.{yields-few, yields-low, yields-high}
 use Rattle.tree.proofs.Counting.{count-few, count-low, count-high}
-use Rattle.tree.proofs.Joining.{All32, same-refl, same-of}
+use Rattle.octets.proofs.Sameness.{same-refl, same-of}
+use Rattle.tree.proofs.Joining.{All32}
 use Rattle.carry.specs.Strings.{string, Difference, alike, apart, topmost, Collides}
 use Rattle.carry.specs.Compare.{differ}
 use Rattle.carry.proofs.Pairing.{same-cases, differs, string-left, string-right, top-same, top-apart}

@@ -2,7 +2,7 @@
 use mathlib.Core.Path.{_≡_, refl, ap}
 use Prim.Native.Nat.{ℕ}
 use native.Mathlib.Omega.{arith}
-use Rattle.sha256.specs.Told.{Faithful}
+use Rattle.octets.specs.Answer.{Faithful}
 use Rattle.carry.specs.declared.forward.Carried.the-variants as carried
 use Rattle.carry.specs.declared.compare.Compared.the-variants as compared
 use Rattle.carry.specs.Forward.{carrying}

@@ -11,7 +11,8 @@ use Rattle.tree.specs.Split.{split}
 use Rattle.tree.specs.Tree.{node}
 use Rattle.tree.specs.Count.{inclusionCount, subproofCount}
 use Rattle.tree.specs.Yield.{init, last, inclusionRoot, oldRoot, newRoot}
-use Rattle.tree.proofs.Splitting.{lt-or-ge, split-ends, split-same, by-splits}
+use Rattle.octets.proofs.Order.{lt-or-ge}
+use Rattle.tree.proofs.Splitting.{split-ends, split-same, by-splits}
 use Rattle.tree.proofs.Rfc.{init-snoc, last-snoc, yields-low, yields-high, either-all, either-low, either-high}
 use Rattle.tree.proofs.Counting.{count-low, count-high, sub-low, sub-high}
 use Rattle.tree.proofs.Joining.{All32, all-append, all-one}

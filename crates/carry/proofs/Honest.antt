@@ -19,12 +19,14 @@ use Rattle.tree.specs.Count.{inclusionCount, consistencyCount}
 use Rattle.tree.specs.Joined.{firstNodes, nodes, nodeAt, joined}
 use Rattle.tree.specs.Verdict.{inclusionVerdict, consistencyVerdict}
 use Rattle.tree.specs.Build.{Outcome, refused, wrote, into, unfit, inclusionBuilt, consistencyBuilt}
-use Rattle.tree.proofs.Splitting.{lt-or-ge, split-ends, split-same}
+use Rattle.octets.proofs.Order.{lt-or-ge}
+use Rattle.tree.proofs.Splitting.{split-ends, split-same}
 use Rattle.tree.proofs.Rfc.{init-snoc, last-snoc, length-left, length-right, by-parts, path-low, path-high, sub-low, sub-high}
 use Rattle.tree.proofs.Counting.{path-length, subproof-length}
 use Rattle.tree.proofs.Completing.{inclusion-complete, subproof-complete, consistency-complete, root-32, path-32, subproof-32}
 use Rattle.tree.proofs.Accepting.{inclusion-accepts, consistency-accepted, consistency-accepts}
-use Rattle.tree.proofs.Joining.{All32, all-take, same-of, at-first, take-from, nodes-first, nodes-length, all-nodes, joined-length, nodes-joined}
+use Rattle.octets.proofs.Sameness.{same-of}
+use Rattle.tree.proofs.Joining.{All32, all-take, at-first, take-from, nodes-first, nodes-length, all-nodes, joined-length, nodes-joined}
 use Rattle.tree.proofs.Building.{complete}
 use Rattle.carry.specs.Strings.{string, Difference, alike, topmost}
 use Rattle.carry.specs.Forward.{carried, settled, conflict, forward, carry}

@@ -14,11 +14,12 @@ use Rattle.tree.specs.Tree.{node}
 use Rattle.tree.specs.Full.{together}
 use Rattle.tree.specs.Yield.{init, last, inclusionRoot, consistencyRootOf, oldRoot}
 use Rattle.tree.specs.Count.{inclusionCountOf}
-use Rattle.tree.proofs.Splitting.{lt-or-ge, split-ends, split-same, shape-fork, by-splits}
+use Rattle.octets.proofs.Order.{lt-or-ge}
+use Rattle.tree.proofs.Splitting.{split-ends, split-same, shape-fork, by-splits}
 use Rattle.tree.proofs.Rfc.{size-left}
 use Rattle.tree.proofs.Full.{together-more}
 use Rattle.tree.specs.Joined.{nodes}
-use Rattle.tree.proofs.Joining.{same-of}
+use Rattle.octets.proofs.Sameness.{same-of}
 use Rattle.tree.proofs.Accepting.{inclusion-accepted, consistency-accepted}
 use Rattle.carry.specs.Strings.{string, Difference, alike, apart, topmost}
 use Rattle.carry.specs.Compare.{differOf, differ}

@@ -11,7 +11,8 @@ use Rattle.tree.specs.Split.{split, shape}
 use Rattle.tree.specs.Tree.{node}
 use Rattle.tree.specs.Count.{subproofCount}
 use Rattle.tree.specs.Yield.{init, last, inclusionRoot, consistencyRootOf, oldRoot, newRoot}
-use Rattle.tree.proofs.Splitting.{lt-or-ge, by-splits}
+use Rattle.octets.proofs.Order.{lt-or-ge}
+use Rattle.tree.proofs.Splitting.{by-splits}
 use Rattle.tree.proofs.Rfc.{yields-few, yields-low, yields-high, either-all, either-low, either-high}
 use Rattle.tree.proofs.Counting.{sub-all, sub-low}
 use Rattle.tree.proofs.Joining.{All32, all-take}

@@ -17,7 +17,8 @@ use Rattle.tree.specs.Tree.{root, subproof, consistency}
 use Rattle.tree.specs.Full.{fullRoots}
 use Rattle.tree.specs.Yield.{init, last}
 use Rattle.tree.specs.Equations.{left, right}
-use Rattle.tree.proofs.Splitting.{lt-or-ge, split-ends, split-power, split-unique, split-same, shape-one, shape-fork, size-shape, by-splits}
+use Rattle.octets.proofs.Order.{lt-or-ge}
+use Rattle.tree.proofs.Splitting.{split-ends, split-power, split-unique, split-same, shape-one, shape-fork, size-shape, by-splits}
 use Rattle.tree.proofs.Digits.{ones-top, ones-power}
 use Rattle.tree.proofs.Full.{full-power, full-parts}
 use Rattle.tree.proofs.Rfc.{size-left, size-right, length-left, length-right, init-snoc, last-snoc, sub-all, sub-low, sub-high, by-parts}

@@ -5,9 +5,8 @@ use Prim.Native.Nat.{ℕ, _+_, _≤_}
 use native.Mathlib.Omega.{arith}
 use lib.ListN.{length, take, drop, length-append, length-take}
 use lib.Seq.{take-at, drop-at, drop-drop, take-all, paste}
-use Rattle.tree.specs.Build.{over}
-use Rattle.tree.specs.Joined.{copied}
-use Rattle.tree.proofs.Joining.{copied-fits}
+use Rattle.octets.specs.Bytes.{over, copied}
+use Rattle.octets.proofs.Putting.{copied-fits}
 use Rattle.carry.specs.Strings.{string}
 use Rattle.carry.specs.Inner.{Appends}
 

@@ -8,8 +8,8 @@ use Rattle.tree.specs.Split.{Shape, one, fork, size, shape}
 use Rattle.tree.specs.Yield.{init, last, inclusionRootOf}
 use Rattle.tree.specs.Joined.{nodes}
 use Rattle.tree.specs.Verdict.{inclusionVerdict}
-use Rattle.tree.specs.Build.{over}
-use Rattle.sha256.specs.Told.{Told, done}
+use Rattle.octets.specs.Bytes.{over}
+use Rattle.octets.specs.Answer.{Answer, done}
 use Rattle.carry.specs.declared.compare.Compared.{Compared}
 use Rattle.carry.specs.declared.compare.Compared.the-variants.{Same, Collision, Refused}
 use Rattle.carry.specs.Strings.{string, Difference, alike, apart, topmost}
@@ -26,14 +26,14 @@ pub data Likeness : Type 0 where
   ofStrings : Likeness
 
 -- what it tells
-unfoldable pub report : Comparison → Told Likeness
-report (refused n) = Told.refused n
+unfoldable pub report : Comparison → Answer Likeness
+report (refused n) = Answer.refused n
 report equal = done same
 report (collision s t) = done ofStrings
 
 -- what each case of the code's answer tells
-abbrev pub comparing : Compared → Told Likeness
-comparing (Refused n) = Told.refused n
+abbrev pub comparing : Compared → Answer Likeness
+comparing (Refused n) = Answer.refused n
 comparing Same = done same
 comparing Collision = done ofStrings
 

@@ -5,7 +5,7 @@ use mathlib.Core.Path.{_≡_}
 use mathlib.Core.List.{List, [], _∷_, _++_, map}
 use Prim.Native.Nat.{ℕ, _+_, _-_, _*_, _%_}
 use lib.ListN.{length, getD, replicate}
-use Rattle.sha256.specs.Told.{done}
+use Rattle.octets.specs.Answer.{done}
 use Rattle.tree.specs.Joined.{joined}
 use Rattle.carry.specs.Strings.{string}
 use Rattle.carry.specs.Forward as forward

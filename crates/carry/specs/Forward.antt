@@ -11,8 +11,8 @@ use Rattle.tree.specs.Count.{inclusionCount}
 use Rattle.tree.specs.Yield.{init, last, inclusionRootOf, inclusionRoot, consistencyRootOf}
 use Rattle.tree.specs.Joined.{nodes, joined}
 use Rattle.tree.specs.Verdict.{inclusionVerdict, consistencyVerdict}
-use Rattle.tree.specs.Build.{over}
-use Rattle.sha256.specs.Told.{Told, done}
+use Rattle.octets.specs.Bytes.{over}
+use Rattle.octets.specs.Answer.{Answer, done}
 use Rattle.carry.specs.declared.forward.Carried.{Carried}
 use Rattle.carry.specs.declared.forward.Carried.the-variants.{Path, Collision, Refused}
 use Rattle.carry.specs.Strings.{string, Difference, alike, apart, topmost}
@@ -29,14 +29,14 @@ pub data Moved : Type 0 where
   ofStrings : Moved
 
 -- what it tells
-unfoldable pub report : Forward → Told Moved
-report (refused n) = Told.refused n
+unfoldable pub report : Forward → Answer Moved
+report (refused n) = Answer.refused n
 report (carried w) = done (ofPath (length w))
 report (collision s t) = done ofStrings
 
 -- what each case of the code's answer tells
-abbrev pub carrying : Carried → Told Moved
-carrying (Refused n) = Told.refused n
+abbrev pub carrying : Carried → Answer Moved
+carrying (Refused n) = Answer.refused n
 carrying (Path n) = done (ofPath n)
 carrying Collision = done ofStrings
 

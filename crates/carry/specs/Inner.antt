@@ -7,7 +7,7 @@ use lib.Dec.{eqb}
 use lib.ListN.{length}
 use Rattle.tree.specs.Limits.{largestSize}
 use Rattle.tree.specs.Count.{inclusionCount, consistencyCount}
-use Rattle.tree.specs.Build.{over}
+use Rattle.octets.specs.Bytes.{over}
 use Rattle.tree.specs.Joined.{firstNodes, nodesFrom}
 use Rattle.carry.specs.declared.level.Met.{Met}
 use Rattle.carry.specs.declared.walk.Walked.{Walked}

@@ -1,11 +1,11 @@
 // Strings and paths, written into lent buffers.
 use hash::Digest;
-use tree::nodes::copy;
+use octets::copy;
 ghost use mathlib.Core.Path.{_≡_};
 ghost use mathlib.Core.List.{_++_};
 ghost use Prim.Native.Nat.{_+_, _-_, _*_, _≤_};
 ghost use lib.ListN.{length, take, drop};
-ghost use Rattle.tree.specs.Build.{over};
+ghost use Rattle.octets.specs.Bytes.{over};
 ghost use Rattle.carry.specs.Strings.{string};
 ghost use Rattle.carry.specs.Inner.{Appends};
 

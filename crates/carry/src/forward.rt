@@ -11,7 +11,7 @@ ghost use mathlib.Core.Path.{_≡_};
 ghost use lib.ListN.{length};
 ghost use Rattle.hash.specs.Digest.{sha256};
 ghost use Rattle.tree.specs.Verdict.{inclusionVerdict, consistencyVerdict};
-ghost use Rattle.sha256.specs.Told.{Told};
+ghost use Rattle.octets.specs.Answer.{Answer};
 ghost use Rattle.carry.specs.Inner.{either};
 ghost use Rattle.carry.specs.Forward.{carrying, report, pathAfter, pairAfter};
 ghost use Rattle.carry.specs.Forward as paper;
@@ -34,7 +34,7 @@ fn refusal(
     path: &[u8],
     proof: &[u8],
 ) -> Carried
-    ensures { λ r. ⌜ carrying r ≡ Told.refused (either (inclusionVerdict sha256 (now (leaf .entry)) place m (now (old .entry)) (now (path .entry))) (consistencyVerdict sha256 m n (now (old .entry)) (now (new .entry)) (now (proof .entry)))) ⌝ }
+    ensures { λ r. ⌜ carrying r ≡ Answer.refused (either (inclusionVerdict sha256 (now (leaf .entry)) place m (now (old .entry)) (now (path .entry))) (consistencyVerdict sha256 m n (now (old .entry)) (now (new .entry)) (now (proof .entry)))) ⌝ }
 {
     let inclusion = inclusion_verdict(leaf, place, m, old, path);
     if inclusion != 0 {

@@ -3,7 +3,7 @@ use hash::Digest;
 use tree::nodes::equals;
 ghost use mathlib.Core.Path.{_≡_};
 ghost use Rattle.hash.specs.Digest.{nodeHash};
-ghost use Rattle.tree.specs.Joined.{same};
+ghost use Rattle.octets.specs.Bytes.{same};
 ghost use Rattle.carry.specs.Strings.{string, alike, topmost};
 ghost use Rattle.carry.specs.Inner.{metAs};
 

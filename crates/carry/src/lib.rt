@@ -8,7 +8,7 @@ mod bytes; // strings and paths, written into lent buffers
 mod level; // one level of two proofs
 mod walk; // the way down to the full subtree that holds a place
 
-ghost use Rattle.sha256.specs.Told.{Faithful};
+ghost use Rattle.octets.specs.Answer.{Faithful};
 ghost use Rattle.carry.specs.Carries.{Carrying, Honest};
 ghost use Rattle.carry.specs.Cases.{Starred};
 ghost use Rattle.tree.specs.Claims.{OfEvery, OfEvery32};

@@ -64,7 +64,7 @@ fn call_end(calls: &[u8], at: usize) -> usize {
     if calls[at] > 1 {
         return 0;
     }
-    let n = item::big_endian(part(calls, at + 1, at + 5));
+    let n = octets::number_at(part(calls, at + 1, at + 5), 0, octets::Width::Four);
     let room = calls.len() - 5 - at;
     if n > room as u64 {
         return 0;

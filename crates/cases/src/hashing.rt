@@ -46,7 +46,7 @@ fn word_of(s: &[u8], t: usize) -> u32 {
     if t >= 256 {
         return 0;
     }
-    (item::big_endian(part(s, 4 * t, 4 * t + 4)) % 4294967296) as u32
+    (octets::number_at(part(s, 4 * t, 4 * t + 4), 0, octets::Width::Four) % 4294967296) as u32
 }
 
 // The words of a list, and zeros after them.

@@ -8,10 +8,10 @@ use native.Mathlib.Omega.{arith}
 use lib.Dec.{ltb}
 use lib.ListN.{length}
 use borrow.Author.Tests.{lt-ltb, le-ltb, ltb-false}
-use Rattle.hash.specs.Answers.{mostItem}
+use Rattle.octets.specs.Limits.{mostItem}
 use Rattle.tree.specs.Limits.{largestSize, mostLeaves}
 use Rattle.tree.specs.Build.{unfit}
-use Rattle.tree.proofs.Splitting.{lt-or-ge}
+use Rattle.octets.proofs.Order.{lt-or-ge}
 use Rattle.tree.proofs.Building.{unfit-part, unfit-rest}
 use Rattle.growing.specs.declared.Growing.{Growing}
 use Rattle.growing.specs.Hashes.{withLeaves}

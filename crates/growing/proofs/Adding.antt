@@ -9,7 +9,8 @@ use lib.Dec.{ltb}
 use lib.ListN.{length}
 use lib.Seq.{take-all}
 use borrow.Author.Tests.{ne-eqb, lt-ltb, le-ltb, ltb-false}
-use Rattle.hash.specs.Answers.{mostItem, valueNumber, valueBytes}
+use Rattle.octets.specs.Limits.{mostItem}
+use Rattle.hash.specs.Answers.{valueNumber, valueBytes}
 use Rattle.tree.specs.Limits.{largestSize}
 use Rattle.tree.specs.Tree.{leaf}
 use Rattle.tree.specs.Joined.{firstNodes, nodeAt, nodes}

@@ -9,7 +9,7 @@ use lib.Dec.{eqb, ltb}
 use lib.ListN.{length, length-append, length-replicate}
 use borrow.Author.Tests.{ne-eqb}
 use Rattle.hash.specs.declared.Digest.{Digest}
-use Rattle.hash.specs.Answers.{mostItem}
+use Rattle.octets.specs.Limits.{mostItem}
 use Rattle.tree.specs.Limits.{largestSize}
 use Rattle.tree.specs.Tree.{leaf, root, mth}
 use Rattle.tree.specs.Joined.{nodes}

@@ -10,10 +10,11 @@ use lib.ListN.{length}
 use Rattle.hash.specs.Digest.{sha256}
 use Rattle.hash.specs.declared.Digest.{Digest}
 use Rattle.hash.proofs.Promises.{sha256-length}
-use Rattle.sha256.specs.Told.{done, refused}
+use Rattle.octets.specs.Answer.{done, refused}
 use Rattle.tree.specs.declared.build.Built.{Built}
 use Rattle.tree.specs.Tree.{root}
-use Rattle.tree.specs.Build.{Outcome, wrote, building, report, over, output, into}
+use Rattle.octets.specs.Bytes.{over}
+use Rattle.tree.specs.Build.{Outcome, wrote, building, report, output, into}
 use Rattle.tree.specs.Build as Build
 use Rattle.tree.proofs.Building.{short, long}
 use Rattle.tree.proofs.Completing.{root-32}

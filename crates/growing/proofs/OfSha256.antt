@@ -4,7 +4,8 @@ use mathlib.Core.List.{List, _∷_}
 use Prim.Native.Nat.{ℕ}
 use lib.ListN.{length}
 use Rattle.hash.specs.Digest.{sha256, leafHash, nodeHash}
-use Rattle.hash.specs.Answers.{mostItem, valueNumber, valueBytes}
+use Rattle.octets.specs.Limits.{mostItem}
+use Rattle.hash.specs.Answers.{valueNumber, valueBytes}
 use Rattle.hash.specs.declared.Digest.{Digest}
 use Rattle.hash.proofs.Promises.{sha256-length}
 use Rattle.tree.specs.Tree.{leaf, node}

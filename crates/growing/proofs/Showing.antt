@@ -11,13 +11,15 @@ use lib.ListN.{length, take, drop, take-append-drop}
 use lib.Seq.{take-at, drop-at}
 use Rattle.tree.specs.Split.{split}
 use Rattle.tree.specs.Tree.{leaf, node, root}
-use Rattle.tree.specs.Joined.{nodes, nodeAt, joined, same}
+use Rattle.octets.specs.Bytes.{same}
+use Rattle.tree.specs.Joined.{nodes, nodeAt, joined}
 use Rattle.tree.specs.Equations.{left, right}
 use Rattle.tree.specs.Verdict.{inclusionVerdict, consistencyVerdict}
 use Rattle.tree.specs.Build.{wrote, inclusionBuilt, consistencyBuilt}
 use Rattle.tree.proofs.Rfc.{root-one, root-split, length-left, length-right, by-parts}
 use Rattle.tree.proofs.Splitting.{split-ends}
-use Rattle.tree.proofs.Joining.{All32, all-append, all-none, all-one, all-take, all-drop, all-nodes, joined-length, nodes-joined, same-true, same-of}
+use Rattle.octets.proofs.Sameness.{same-true, same-of}
+use Rattle.tree.proofs.Joining.{All32, all-append, all-none, all-one, all-take, all-drop, all-nodes, joined-length, nodes-joined}
 use Rattle.tree.proofs.Completing.{root-32}
 use Rattle.tree.proofs.Building.{complete}
 use Rattle.growing.specs.declared.Growing.{Growing}

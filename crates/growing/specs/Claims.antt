@@ -7,7 +7,7 @@ use Prim.Native.Nat.{ℕ, suc, _+_, _-_, _*_, _/_, _%_, _^_, _≤_, _<_}
 use lib.Count.{ones}
 use lib.ListN.{length, take, drop, getD, replicate}
 use Rattle.hash.specs.Digest.{sha256}
-use Rattle.hash.specs.Answers.{mostItem}
+use Rattle.octets.specs.Limits.{mostItem}
 use Rattle.tree.specs.Limits.{largestSize, mostLeaves}
 use Rattle.tree.specs.Tree.{leaf, root, mth}
 use Rattle.tree.specs.Joined.{nodes, nodeAt, joined}

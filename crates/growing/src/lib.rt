@@ -18,8 +18,8 @@ ghost use Rattle.growing.specs.Claims.{AcceptsAll, ShownAll, SameLeaves,
 use hash::Digest;
 use levels::none;
 use levels::root_of;
+use octets::copy;
 use tree::build::Built;
-use tree::nodes::copy;
 
 // How many hashes a growing tree keeps.
 pub const MOST_HASHES: usize = 64;

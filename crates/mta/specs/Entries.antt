@@ -3,7 +3,7 @@
 use mathlib.Core.Bool.{Bool, true, false}
 use mathlib.Core.List.{List, []}
 use Prim.Native.Nat.{ℕ}
-use Rattle.sha256.specs.Told.{Told, done, refused}
+use Rattle.octets.specs.Answer.{Answer, done, refused}
 use Rattle.carry.specs.Forward.{Moved}
 use Rattle.carry.specs.Compare.{Likeness}
 use Rattle.item.specs.declared.writer.Numbers.{Numbers}
@@ -11,18 +11,18 @@ use Rattle.item.specs.Answer.{Answer, good, bad}
 use Rattle.item.specs.Item.{vectors, Outcome, writeItem}
 
 -- carrying: how many bytes of path were written, 0 where two strings were, and whether they were
-abbrev pub writtenAfter : Told Moved → ℕ → ℕ
+abbrev pub writtenAfter : Answer Moved → ℕ → ℕ
 writtenAfter (done (Moved.ofPath n)) was = n
 writtenAfter (done Moved.ofStrings) was = 0
 writtenAfter (refused x) was = was
 
-abbrev pub collidedAfter : Told Moved → Bool → Bool
+abbrev pub collidedAfter : Answer Moved → Bool → Bool
 collidedAfter (done (Moved.ofPath n)) was = false
 collidedAfter (done Moved.ofStrings) was = true
 collidedAfter (refused x) was = was
 
 -- comparing: whether two strings were written
-abbrev pub differedAfter : Told Likeness → Bool → Bool
+abbrev pub differedAfter : Answer Likeness → Bool → Bool
 differedAfter (done Likeness.same) was = false
 differedAfter (done Likeness.ofStrings) was = true
 differedAfter (refused x) was = was

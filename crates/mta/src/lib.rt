@@ -3,9 +3,10 @@
 ghost use mathlib.Core.Path.{_≡_};
 ghost use lib.ListN.{length};
 ghost use Rattle.hash.specs.Digest.{sha256, leafHash};
-ghost use Rattle.hash.specs.Answers.{mostInput, mostItem, intoNumber, intoBytes};
+ghost use Rattle.octets.specs.Limits.{mostItem};
+ghost use Rattle.hash.specs.Answers.{mostInput, intoNumber, intoBytes};
 ghost use Rattle.tree.specs.Verdict.{inclusionVerdict, consistencyVerdict};
-ghost use Rattle.sha256.specs.Told.{number};
+ghost use Rattle.octets.specs.Answer.{number};
 ghost use Rattle.tree.specs.Build.{building, report, output, rootBuilt};
 ghost use Rattle.item.specs.Item.{reading, readItem, writing};
 ghost use Rattle.carry.specs.Forward.{carry, pathAfter, pairAfter, report as carryReport};
@@ -285,7 +286,7 @@ fn digest_from(s: &[u8]) -> Digest
     ensures { λ r. ⌜ r .bytes ≡ now (s .entry) ⌝ }
 {
     let mut b = [0u8; 32];
-    bytes::copy(s, &mut b);
+    octets::put(&mut b, 0, s);
     Digest { bytes: b }
 }
 
@@ -306,7 +307,7 @@ pub extern "C" fn mta_node(left: &[u8], right: &[u8], out: &mut [u8]) -> u32
     }
     let d = hash::node(digest_from(left), digest_from(right));
     let b = d.bytes;
-    bytes::copy(&b, out);
+    octets::put(out, 0, &b);
     0
 }
 

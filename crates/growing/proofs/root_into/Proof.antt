@@ -8,7 +8,7 @@ use denote.Ref.{now}
 use lib.ListN.{length}
 use lib.Seq.{paste}
 use Rattle.hash.specs.Digest.{sha256}
-use Rattle.tree.proofs.Joining.{copied-fits}
+use Rattle.octets.proofs.Putting.{copied-fits}
 use Rattle.tree.proofs.Building.{short, long, tells-refused, tells-wrote, over-whole}
 use Rattle.growing.specs.Hashes.{rootNow}
 use Rattle.growing.proofs.Stepping.{root-into-of}

@@ -3,7 +3,7 @@ use denote.Ref.{now}
 use Prim.Native.Nat.{ℕ}
 use mathlib.Core.Bool.{Bool}
 use mathlib.Core.Path.{sym, ap, _∙_}
-use Rattle.sha256.specs.Told.{Told, number}
+use Rattle.octets.specs.Answer.{Answer, number}
 use Rattle.carry.specs.Forward.{Moved, carrying}
 use Rattle.mta.specs.Entries.{writtenAfter, collidedAfter}
 use Rattle.mta.proofs.mta_carry.Statement.{statement}
@@ -15,7 +15,7 @@ returns c =
     let a = b .before .before .before .before .before .before .before .before .before .before .args in
     let r = b .carry .ensures in
     let e = ap carrying (sym (c .before .count .given .1)) ∙ r .0 in
-    (ap number e, (r .1 .0, (r .1 .1, (ap (λ (t : Told Moved). writtenAfter t (now (a .written))) e, ap (λ (t : Told Moved). collidedAfter t (now (a .collided))) e))))
+    (ap number e, (r .1 .0, (r .1 .1, (ap (λ (t : Answer Moved). writtenAfter t (now (a .written))) e, ap (λ (t : Answer Moved). collidedAfter t (now (a .collided))) e))))
 
 returns-2 : tie.Need-returns-2
 returns-2 c =
@@ -23,7 +23,7 @@ returns-2 c =
     let a = b .before .before .before .before .before .before .before .before .before .before .args in
     let r = b .carry .ensures in
     let e = ap carrying (sym (c .enum-told .given .1)) ∙ r .0 in
-    (ap number e, (r .1 .0, (r .1 .1, (ap (λ (t : Told Moved). writtenAfter t (now (a .written))) e, ap (λ (t : Told Moved). collidedAfter t (now (a .collided))) e))))
+    (ap number e, (r .1 .0, (r .1 .1, (ap (λ (t : Answer Moved). writtenAfter t (now (a .written))) e, ap (λ (t : Answer Moved). collidedAfter t (now (a .collided))) e))))
 
 returns-3 : tie.Need-returns-3
 returns-3 c =
@@ -31,7 +31,7 @@ returns-3 c =
     let a = b .before .before .before .before .before .before .before .before .before .before .args in
     let r = b .carry .ensures in
     let e = ap carrying (sym (c .before .number .given .1)) ∙ r .0 in
-    (ap number e, (r .1 .0, (r .1 .1, (ap (λ (t : Told Moved). writtenAfter t (now (a .written))) e, ap (λ (t : Told Moved). collidedAfter t (now (a .collided))) e))))
+    (ap number e, (r .1 .0, (r .1 .1, (ap (λ (t : Answer Moved). writtenAfter t (now (a .written))) e, ap (λ (t : Answer Moved). collidedAfter t (now (a .collided))) e))))
 
 pub mta-carry-spec : {M : Type 1} → statement M
 mta-carry-spec =

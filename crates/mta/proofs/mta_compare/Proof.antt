@@ -1,7 +1,7 @@
 use borrow.Author.Needs.{needs}
 use denote.Ref.{now}
 use mathlib.Core.Path.{sym, ap, _∙_}
-use Rattle.sha256.specs.Told.{Told, number}
+use Rattle.octets.specs.Answer.{Answer, number}
 use Rattle.carry.specs.Compare.{Likeness, comparing}
 use Rattle.mta.specs.Entries.{differedAfter}
 use Rattle.mta.proofs.mta_compare.Statement.{statement}
@@ -13,7 +13,7 @@ returns c =
     let a = b .before .before .before .before .before .before .before .before .args in
     let r = b .compare .ensures in
     let e = ap comparing (sym (c .enum-told .given .1)) ∙ r .0 in
-    (ap number e, (r .1, ap (λ (t : Told Likeness). differedAfter t (now (a .collided))) e))
+    (ap number e, (r .1, ap (λ (t : Answer Likeness). differedAfter t (now (a .collided))) e))
 
 returns-2 : tie.Need-returns-2
 returns-2 c =
@@ -21,7 +21,7 @@ returns-2 c =
     let a = b .before .before .before .before .before .before .before .before .args in
     let r = b .compare .ensures in
     let e = ap comparing (sym (c .enum-told2 .given .1)) ∙ r .0 in
-    (ap number e, (r .1, ap (λ (t : Told Likeness). differedAfter t (now (a .collided))) e))
+    (ap number e, (r .1, ap (λ (t : Answer Likeness). differedAfter t (now (a .collided))) e))
 
 returns-3 : tie.Need-returns-3
 returns-3 c =
@@ -29,7 +29,7 @@ returns-3 c =
     let a = b .before .before .before .before .before .before .before .before .args in
     let r = b .compare .ensures in
     let e = ap comparing (sym (c .before .number .given .1)) ∙ r .0 in
-    (ap number e, (r .1, ap (λ (t : Told Likeness). differedAfter t (now (a .collided))) e))
+    (ap number e, (r .1, ap (λ (t : Answer Likeness). differedAfter t (now (a .collided))) e))
 
 pub mta-compare-spec : {M : Type 1} → statement M
 mta-compare-spec =

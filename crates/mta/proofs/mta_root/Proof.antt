@@ -1,6 +1,6 @@
 use borrow.Author.Needs.{needs}
 use mathlib.Core.Path.{ap, _∙_}
-use Rattle.sha256.specs.Told.{number}
+use Rattle.octets.specs.Answer.{number}
 use Rattle.mta.proofs.mta_root.Statement.{statement}
 use Rattle.mta.proofs.mta_root.Tie as tie
 

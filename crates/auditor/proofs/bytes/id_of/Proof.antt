@@ -2,7 +2,7 @@
 use mathlib.Core.Path.{_≡_, ap, _∙_}
 use denote.Ref.{now}
 use borrow.Author.Needs.{needs}
-use Rattle.tree.specs.Build.{over}
+use Rattle.octets.specs.Bytes.{over}
 use Rattle.auditor.proofs.bytes.id_of.Statement.{statement}
 use Rattle.auditor.proofs.bytes.id_of.Tie as tie
 

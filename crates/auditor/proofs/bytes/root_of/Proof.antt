@@ -3,7 +3,7 @@ use mathlib.Core.Path.{_≡_, sym, ap, _∙_}
 use lib.ListN.{length}
 use denote.Ref.{now}
 use borrow.Author.Needs.{needs}
-use Rattle.auditor.proofs.Copying.{over-all}
+use Rattle.octets.proofs.Putting.{over-all}
 use Rattle.auditor.proofs.bytes.root_of.Statement.{statement}
 use Rattle.auditor.proofs.bytes.root_of.Tie as tie
 

@@ -7,13 +7,13 @@ use borrow.Author.Needs.{needs}
 use Rattle.auditor.proofs.bytes.same_log.Statement.{statement}
 use Rattle.auditor.proofs.bytes.same_log.Tie as tie
 
-whole : (c : tie.After-equal) → length (c .before .before .before .before .before .args .r .id) ≡ 127
+whole : (c : tie.After-same) → length (c .before .before .before .before .before .args .r .id) ≡ 127
 whole c = search needs
 
 returns : tie.Need-returns
 returns c =
     let r = c .before .before .before .before .before .args .r in
-    rw (take-all (r .idlen) (r .id) (omega (arith, whole c))) (c .equal .ensures)
+    rw (take-all (r .idlen) (r .id) (omega (arith, whole c))) (c .same .ensures)
 
 part : (c : tie.Else1) → length (c .before .before .before .args .r .id) ≡ 127
 part c = search needs
@@ -21,8 +21,8 @@ part c = search needs
 array-share-prefix-own : tie.Need-array-share-prefix-own
 array-share-prefix-own c = omega (arith, part c)
 
-slice-aggregate-equal-2 : tie.Need-slice-aggregate-equal-2
-slice-aggregate-equal-2 c = sym (length-take-le _ (c .before .before .before .before .args .r .id) (omega (arith, part (c .before))))
+slice-aggregate-same-2 : tie.Need-slice-aggregate-same-2
+slice-aggregate-same-2 c = sym (length-take-le _ (c .before .before .before .before .args .r .id) (omega (arith, part (c .before))))
 
 pub same-log-spec : {M : Type 1} → statement M
 same-log-spec =
@@ -32,6 +32,6 @@ same-log-spec =
     (λ c κs. search needs)
     returns
     array-share-prefix-own
-    slice-aggregate-equal-2
+    slice-aggregate-same-2
     (λ c κs. search needs)
     (λ c. search needs))

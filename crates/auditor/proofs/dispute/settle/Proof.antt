@@ -25,14 +25,14 @@ returns-3 : tie.Need-returns-3
 returns-3 c =
     let b = c .before .before .before .before .before .before in
     let a = b .before .before .before .before .before .before .before .before .before .before .args in
-    let q = compared-same (now (a .page1)) (now (a .page2)) (now (a .pair)) _ (ap comparing (sym (c .before .before .enum-told2 .given .1)) ∙ b .compare .ensures .0) (sym (c .before .equal .ensures) ∙ c .if1 .taken) in
+    let q = compared-same (now (a .page1)) (now (a .page2)) (now (a .pair)) _ (ap comparing (sym (c .before .before .enum-told2 .given .1)) ∙ b .compare .ensures .0) (sym (c .before .same .ensures) ∙ c .if1 .taken) in
     (q .0, b .compare .ensures .1 ∙ q .1)
 
 returns-4 : tie.Need-returns-4
 returns-4 c =
     let b = c .before .before .before .before .before .before in
     let a = b .before .before .before .before .before .before .before .before .before .before .args in
-    let q = compared-pages (now (a .page1)) (now (a .page2)) (now (a .pair)) _ (ap comparing (sym (c .before .before .enum-told2 .given .1)) ∙ b .compare .ensures .0) (sym (c .before .equal .ensures) ∙ c .if1 .left) in
+    let q = compared-pages (now (a .page1)) (now (a .page2)) (now (a .pair)) _ (ap comparing (sym (c .before .before .enum-told2 .given .1)) ∙ b .compare .ensures .0) (sym (c .before .same .ensures) ∙ c .if1 .left) in
     (q .0, b .compare .ensures .1 ∙ q .1)
 
 pub settle-spec : {M : Type 1} → statement M

@@ -3,7 +3,7 @@ use mathlib.Core.Path.{sym, _∙_}
 use mathlib.Core.Bool.{false≢true}
 use borrow.Author.Needs.{needs}
 use borrow.Author.Tests.{not-true, not-false}
-use Rattle.tree.proofs.Joining.{same-true, same-of}
+use Rattle.octets.proofs.Sameness.{same-true, same-of}
 use Rattle.carry.proofs.accept.agree.Statement.{statement}
 use Rattle.carry.proofs.accept.agree.Tie as tie
 

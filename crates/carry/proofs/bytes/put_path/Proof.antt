@@ -7,7 +7,7 @@ use lib.ListN.{length, take, drop, length-append, length-take, length-drop}
 use lib.Seq.{take-all}
 use denote.Ref.{now}
 use borrow.Author.Needs.{needs}
-use Rattle.tree.proofs.Joining.{copied-fits}
+use Rattle.octets.proofs.Putting.{copied-fits}
 use Rattle.carry.proofs.Writing.{pasted, then, written}
 use Rattle.carry.proofs.bytes.put_path.Statement.{statement}
 use Rattle.carry.proofs.bytes.put_path.Tie as tie

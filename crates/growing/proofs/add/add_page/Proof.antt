@@ -5,7 +5,8 @@ use borrow.Author.Needs.{needs}
 use denote.Ref.{now}
 use lib.ListN.{length}
 use Rattle.hash.specs.Digest.{sha256}
-use Rattle.hash.specs.Answers.{mostItem, valueNumber}
+use Rattle.octets.specs.Limits.{mostItem}
+use Rattle.hash.specs.Answers.{valueNumber}
 use Rattle.hash.proofs.Promises.{sha256-length}
 use Rattle.tree.specs.Tree.{leaf}
 use Rattle.growing.specs.Hashes.{withLeaves}
