@@ -53,10 +53,18 @@ fn over_head(
     out: &mut [u8],
     pair: &mut [u8],
 ) -> Carried
-    requires { ⌜ (42 ≤ count) × (count ≤ length (now heads)) × (count - 42 ≡ 32 * countOf (now heads)) × (length (now out) ≡ longestPath) ⌝ }
-    ensures { λ r. ⌜ carrying r ≡ carriedAs (carryTo sha256 (now (leaf .entry)) place m (sizeOf (now (heads .entry))) (now (root .entry)) (rootOf (now (heads .entry))) (now (path .entry)) (pathOf (now (heads .entry))) longestPath (length (now (pair .entry)))) ⌝ }
-    ensures { λ _. ⌜ now (out .exit) ≡ carriedPath (carryTo sha256 (now (leaf .entry)) place m (sizeOf (now (heads .entry))) (now (root .entry)) (rootOf (now (heads .entry))) (now (path .entry)) (pathOf (now (heads .entry))) longestPath (length (now (pair .entry)))) (now (out .entry)) ⌝ }
-    ensures { λ _. ⌜ now (pair .exit) ≡ carriedPair (carryTo sha256 (now (leaf .entry)) place m (sizeOf (now (heads .entry))) (now (root .entry)) (rootOf (now (heads .entry))) (now (path .entry)) (pathOf (now (heads .entry))) longestPath (length (now (pair .entry)))) (now (pair .entry)) ⌝ }
+    requires { ⌜
+        (42 ≤ count)
+        × (count ≤ length (now heads))
+        × (count - 42 ≡ 32 * countOf (now heads))
+        × (length (now out) ≡ longestPath) ⌝ }
+    ensures { λ r. ⌜
+        (let s = now (heads .entry) in
+        let o = carryTo sha256 (now (leaf .entry)) place m (sizeOf s) (now (root .entry)) (rootOf s) (now (path .entry)) (pathOf s) longestPath
+        (length (now (pair .entry))) in
+        (carrying r ≡ carriedAs o)
+        × ((now (out .exit) ≡ carriedPath o (now (out .entry)))
+        × (now (pair .exit) ≡ carriedPair o (now (pair .entry))))) ⌝ }
 {
     let n = size_of(heads);
     carry(
@@ -86,8 +94,11 @@ fn settle(
     path2: &[u8],
     pair: &mut [u8],
 ) -> Settled
-    ensures { λ r. ⌜ settling r ≡ report (settled (now (page1 .entry)) (now (page2 .entry)) (compareTo sha256 place size (now (root .entry)) (now (leaf1 .entry)) (now (path1 .entry)) (now (leaf2 .entry)) (now (path2 .entry)) (length (now (pair .entry))))) ⌝ }
-    ensures { λ _. ⌜ now (pair .exit) ≡ pairAfter (settled (now (page1 .entry)) (now (page2 .entry)) (compareTo sha256 place size (now (root .entry)) (now (leaf1 .entry)) (now (path1 .entry)) (now (leaf2 .entry)) (now (path2 .entry)) (length (now (pair .entry))))) (now (pair .entry)) ⌝ }
+    ensures { λ r. ⌜
+        (let compared = compareTo sha256 place size (now (root .entry)) (now (leaf1 .entry)) (now (path1 .entry)) (now (leaf2 .entry)) (now (path2 .entry))
+        (length (now (pair .entry))) in
+        let o = settled (now (page1 .entry)) (now (page2 .entry)) compared in
+        (settling r ≡ report o) × (now (pair .exit) ≡ pairAfter o (now (pair .entry)))) ⌝ }
 {
     let compared = compare(place, size, root, leaf1, path1, leaf2, path2, pair);
     match compared {
@@ -116,9 +127,15 @@ fn work(
     path2: &[u8],
     pair: &mut [u8],
 ) -> Settled
-    requires { ⌜ (length (now path1) ≤ longestPath) × (length (now root) ≡ 32) × (one .bytes ≡ sha256 (0 ∷ now page1)) × (two .bytes ≡ sha256 (0 ∷ now page2)) ⌝ }
-    ensures { λ r. ⌜ settling r ≡ report (follow sha256 place (now (page1 .entry)) (now (page2 .entry)) (now (path2 .entry)) (length (now (pair .entry))) (headsOf (now (heads .entry))) size (now (root .entry)) (now (path1 .entry))) ⌝ }
-    ensures { λ _. ⌜ now (pair .exit) ≡ pairAfter (follow sha256 place (now (page1 .entry)) (now (page2 .entry)) (now (path2 .entry)) (length (now (pair .entry))) (headsOf (now (heads .entry))) size (now (root .entry)) (now (path1 .entry))) (now (pair .entry)) ⌝ }
+    requires { ⌜
+        (length (now path1) ≤ longestPath)
+        × (length (now root) ≡ 32)
+        × (one .bytes ≡ sha256 (0 ∷ now page1))
+        × (two .bytes ≡ sha256 (0 ∷ now page2)) ⌝ }
+    ensures { λ r. ⌜
+        (let o = follow sha256 place (now (page1 .entry)) (now (page2 .entry)) (now (path2 .entry)) (length (now (pair .entry)))
+        (headsOf (now (heads .entry))) size (now (root .entry)) (now (path1 .entry)) in
+        (settling r ≡ report o) × (now (pair .exit) ≡ pairAfter o (now (pair .entry)))) ⌝ }
 {
     let leaf1 = one.bytes;
     let leaf2 = two.bytes;
@@ -186,8 +203,10 @@ pub fn dispute(
     path2: &[u8],
     pair: &mut [u8],
 ) -> Settled
-    ensures { λ r. ⌜ settling r ≡ report (paper.dispute sha256 (now (page1 .entry)) place (now (path1 .entry)) size (now (root .entry)) (headsOf (now (heads .entry))) (now (page2 .entry)) (now (path2 .entry)) (length (now (pair .entry)))) ⌝ }
-    ensures { λ _. ⌜ now (pair .exit) ≡ pairAfter (paper.dispute sha256 (now (page1 .entry)) place (now (path1 .entry)) size (now (root .entry)) (headsOf (now (heads .entry))) (now (page2 .entry)) (now (path2 .entry)) (length (now (pair .entry)))) (now (pair .entry)) ⌝ }
+    ensures { λ r. ⌜
+        (let o = paper.dispute sha256 (now (page1 .entry)) place (now (path1 .entry)) size (now (root .entry)) (headsOf (now (heads .entry)))
+        (now (page2 .entry)) (now (path2 .entry)) (length (now (pair .entry))) in
+        (settling r ≡ report o) × (now (pair .exit) ≡ pairAfter o (now (pair .entry)))) ⌝ }
 {
     let first = hash::leaf(page1);
     if first.number != 0 {

@@ -20,7 +20,11 @@ pub enum Appended {
 
 // Writes a head behind what is used: its size, its root, its count of nodes and the nodes.
 fn join(journal: &mut [u8], used: usize, size: u64, root: &[u8], path: &[u8])
-    requires { ⌜ (length (now root) ≡ 32) × (length (now path) ≤ 32 * mostCount) × (length (now path) % 32 ≡ 0) × (used + (42 + length (now path)) ≤ length (now journal)) ⌝ }
+    requires { ⌜
+        (length (now root) ≡ 32)
+        × (length (now path) ≤ 32 * mostCount)
+        × (length (now path) % 32 ≡ 0)
+        × (used + (42 + length (now path)) ≤ length (now journal)) ⌝ }
     ensures { λ _. ⌜ now (journal .exit) ≡ put (now (journal .entry)) used (joinedHeads (then size (now (root .entry)) (now (path .entry)) end)) ⌝ }
 {
     let n = path.len();
@@ -35,8 +39,9 @@ fn join(journal: &mut [u8], used: usize, size: u64, root: &[u8], path: &[u8])
 // Joins an accepted head on, by the arguments of its offer, in a buffer of which so many bytes are used. Order: 5 for a root not of 32 bytes or a path of
 // more nodes than its count can say, 10, and 9 where the head does not fit behind what is used. What `dispute` takes as the heads is the used part.
 pub fn append(journal: &mut [u8], used: usize, size: u64, root: &[u8], path: &[u8]) -> Appended
-    ensures { λ r. ⌜ appending r ≡ report used (paper.append (length (now (journal .entry))) used size (now (root .entry)) (now (path .entry))) ⌝ }
-    ensures { λ _. ⌜ now (journal .exit) ≡ journalAfter used (paper.append (length (now (journal .entry))) used size (now (root .entry)) (now (path .entry))) (now (journal .entry)) ⌝ }
+    ensures { λ r. ⌜
+        (let o = paper.append (length (now (journal .entry))) used size (now (root .entry)) (now (path .entry)) in
+        (appending r ≡ report used o) × (now (journal .exit) ≡ journalAfter used o (now (journal .entry)))) ⌝ }
 {
     if root.len() != 32 {
         return Appended::Refused(5);

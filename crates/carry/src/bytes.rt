@@ -41,9 +41,14 @@ pub(crate) fn put_path(
     high: usize,
     out: &mut [u8],
 ) -> usize
-    requires { ⌜ (32 * low ≤ length (now path)) × (hashed ≤ 1) × (32 * high ≤ length (now proof)) × (32 * low + 32 * hashed + (length (now proof) - 32 * high) ≤ length (now out)) ⌝ }
-    ensures { λ r. ⌜ r ≡ length (take (32 * low) (now (path .entry)) ++ (take (32 * hashed) (sibling .bytes) ++ drop (32 * high) (now (proof .entry)))) ⌝ }
-    ensures { λ _. ⌜ now (out .exit) ≡ over (take (32 * low) (now (path .entry)) ++ (take (32 * hashed) (sibling .bytes) ++ drop (32 * high) (now (proof .entry)))) (now (out .entry)) ⌝ }
+    requires { ⌜
+        (32 * low ≤ length (now path))
+        × (hashed ≤ 1)
+        × (32 * high ≤ length (now proof))
+        × (32 * low + 32 * hashed + (length (now proof) - 32 * high) ≤ length (now out)) ⌝ }
+    ensures { λ r. ⌜
+        (let w = take (32 * low) (now (path .entry)) ++ (take (32 * hashed) (sibling .bytes) ++ drop (32 * high) (now (proof .entry))) in
+        (r ≡ length w) × (now (out .exit) ≡ over w (now (out .entry)))) ⌝ }
 {
     let s = sibling.bytes;
     let p = 32 * low;

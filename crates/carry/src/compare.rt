@@ -35,10 +35,18 @@ fn meet(
     second: &[u8],
     count: usize,
 ) -> Met
-    requires { ⌜ (place < size) × (count ≡ inclusionCount place size) × (32 * count ≤ length (now first)) × (32 * count ≤ length (now second)) ⌝ }
-    ensures { λ r. ⌜ r .one .bytes ≡ inclusionRoot sha256 place size (one .bytes) (firstNodes count (now (first .entry))) ⌝ }
-    ensures { λ r. ⌜ r .two .bytes ≡ inclusionRoot sha256 place size (two .bytes) (firstNodes count (now (second .entry))) ⌝ }
-    ensures { λ r. ⌜ metAs r ≡ differ sha256 place size (one .bytes) (firstNodes count (now (first .entry))) (two .bytes) (firstNodes count (now (second .entry))) ⌝ }
+    requires { ⌜
+        (place < size)
+        × (count ≡ inclusionCount place size)
+        × (32 * count ≤ length (now first))
+        × (32 * count ≤ length (now second)) ⌝ }
+    ensures { λ r. ⌜
+        (let H = sha256 in
+        let p = firstNodes count (now (first .entry)) in
+        let q = firstNodes count (now (second .entry)) in
+        (r .one .bytes ≡ inclusionRoot H place size (one .bytes) p)
+        × ((r .two .bytes ≡ inclusionRoot H place size (two .bytes) q)
+        × (metAs r ≡ differ H place size (one .bytes) p (two .bytes) q))) ⌝ }
 {
     if size <= 1 {
         return start(one, two);
@@ -71,8 +79,10 @@ pub fn compare(
     path2: &[u8],
     pair: &mut [u8],
 ) -> Compared
-    ensures { λ r. ⌜ comparing r ≡ report (paper.compare sha256 place size (now (root .entry)) (now (leaf1 .entry)) (now (path1 .entry)) (now (leaf2 .entry)) (now (path2 .entry)) (length (now (pair .entry)))) ⌝ }
-    ensures { λ _. ⌜ now (pair .exit) ≡ pairAfter (paper.compare sha256 place size (now (root .entry)) (now (leaf1 .entry)) (now (path1 .entry)) (now (leaf2 .entry)) (now (path2 .entry)) (length (now (pair .entry)))) (now (pair .entry)) ⌝ }
+    ensures { λ r. ⌜
+        (let o = paper.compare sha256 place size (now (root .entry)) (now (leaf1 .entry)) (now (path1 .entry)) (now (leaf2 .entry)) (now (path2 .entry))
+        (length (now (pair .entry))) in
+        (comparing r ≡ report o) × (now (pair .exit) ≡ pairAfter o (now (pair .entry)))) ⌝ }
 {
     let first = inclusion_verdict(leaf1, place, size, root, path1);
     if first != 0 {

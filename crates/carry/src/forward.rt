@@ -34,7 +34,11 @@ fn refusal(
     path: &[u8],
     proof: &[u8],
 ) -> Carried
-    ensures { λ r. ⌜ carrying r ≡ Told.refused (either (inclusionVerdict sha256 (now (leaf .entry)) place m (now (old .entry)) (now (path .entry))) (consistencyVerdict sha256 m n (now (old .entry)) (now (new .entry)) (now (proof .entry)))) ⌝ }
+    ensures { λ r. ⌜
+        (let H = sha256 in
+        let inclusion = inclusionVerdict H (now (leaf .entry)) place m (now (old .entry)) (now (path .entry)) in
+        let consistency = consistencyVerdict H m n (now (old .entry)) (now (new .entry)) (now (proof .entry)) in
+        carrying r ≡ Told.refused (either inclusion consistency)) ⌝ }
 {
     let inclusion = inclusion_verdict(leaf, place, m, old, path);
     if inclusion != 0 {
@@ -57,9 +61,12 @@ pub fn carry(
     out: &mut [u8],
     pair: &mut [u8],
 ) -> Carried
-    ensures { λ r. ⌜ carrying r ≡ report (paper.carry sha256 (now (leaf .entry)) place m n (now (old .entry)) (now (new .entry)) (now (path .entry)) (now (proof .entry)) (length (now (out .entry))) (length (now (pair .entry)))) ⌝ }
-    ensures { λ _. ⌜ now (out .exit) ≡ pathAfter (paper.carry sha256 (now (leaf .entry)) place m n (now (old .entry)) (now (new .entry)) (now (path .entry)) (now (proof .entry)) (length (now (out .entry))) (length (now (pair .entry)))) (now (out .entry)) ⌝ }
-    ensures { λ _. ⌜ now (pair .exit) ≡ pairAfter (paper.carry sha256 (now (leaf .entry)) place m n (now (old .entry)) (now (new .entry)) (now (path .entry)) (now (proof .entry)) (length (now (out .entry))) (length (now (pair .entry)))) (now (pair .entry)) ⌝ }
+    ensures { λ r. ⌜
+        (let o = paper.carry sha256 (now (leaf .entry)) place m n (now (old .entry)) (now (new .entry)) (now (path .entry)) (now (proof .entry))
+        (length (now (out .entry))) (length (now (pair .entry))) in
+        (carrying r ≡ report o)
+        × ((now (out .exit) ≡ pathAfter o (now (out .entry)))
+        × (now (pair .exit) ≡ pairAfter o (now (pair .entry))))) ⌝ }
 {
     if !fits(
         leaf.len(),

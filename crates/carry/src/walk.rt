@@ -41,13 +41,23 @@ pub(crate) fn walk(
     proof: &[u8],
     q: usize,
 ) -> Walked
-    requires { ⌜ (x < m) × (m ≤ n) × (p ≡ inclusionCount x m) × (32 * p ≤ length (now path)) × (q ≡ subproofCount m n known) × (32 * q ≤ length (now proof)) ⌝ }
-    ensures { λ r. ⌜ r .met .one .bytes ≡ inclusionRoot sha256 x m (leaf .bytes) (firstNodes p (now (path .entry))) ⌝ }
-    ensures { λ r. ⌜ r .met .two .bytes ≡ oldRoot sha256 m n known (first .bytes) (firstNodes q (now (proof .entry))) ⌝ }
-    ensures { λ r. ⌜ r .new .bytes ≡ newRoot sha256 m n known (first .bytes) (firstNodes q (now (proof .entry))) ⌝ }
-    ensures { λ r. ⌜ metAs (r .met) ≡ conflict sha256 m n x (leaf .bytes) (firstNodes p (now (path .entry))) (first .bytes) (firstNodes q (now (proof .entry))) ⌝ }
-    ensures { λ r. ⌜ pathAs r (now (path .entry)) (now (proof .entry)) q ≡ forward sha256 m n x (firstNodes p (now (path .entry))) (first .bytes) (firstNodes q (now (proof .entry))) ⌝ }
-    ensures { λ r. ⌜ (r .low ≤ p) × (r .hashed ≤ 1) × (r .high ≤ q) ⌝ }
+    requires { ⌜
+        (x < m)
+        × (m ≤ n)
+        × (p ≡ inclusionCount x m)
+        × (32 * p ≤ length (now path))
+        × (q ≡ subproofCount m n known)
+        × (32 * q ≤ length (now proof)) ⌝ }
+    ensures { λ r. ⌜
+        (let H = sha256 in
+        let ps = firstNodes p (now (path .entry)) in
+        let qs = firstNodes q (now (proof .entry)) in
+        (r .met .one .bytes ≡ inclusionRoot H x m (leaf .bytes) ps)
+        × ((r .met .two .bytes ≡ oldRoot H m n known (first .bytes) qs)
+        × ((r .new .bytes ≡ newRoot H m n known (first .bytes) qs)
+        × ((metAs (r .met) ≡ conflict H m n x (leaf .bytes) ps (first .bytes) qs)
+        × ((pathAs r (now (path .entry)) (now (proof .entry)) q ≡ forward H m n x ps (first .bytes) qs)
+        × ((r .low ≤ p) × (r .hashed ≤ 1) × (r .high ≤ q))))))) ⌝ }
 {
     if m == n {
         let y = yielded_root(leaf, x, m, path);

@@ -55,8 +55,9 @@ pub fn root(g: Growing) -> Digest
 
 // Writes the root. 9: the output has fewer than 32 bytes. The root is made before that is asked: a digest is known to have 32 bytes.
 pub fn root_into(g: Growing, out: &mut [u8]) -> Built
-    ensures { λ r. ⌜ building r ≡ report (rootInto sha256 g (length (now (out .entry)))) ⌝ }
-    ensures { λ _. ⌜ now (out .exit) ≡ output (rootInto sha256 g (length (now (out .entry)))) (now (out .entry)) ⌝ }
+    ensures { λ r. ⌜
+        (let o = rootInto sha256 g (length (now (out .entry))) in
+        (building r ≡ report o) × (now (out .exit) ≡ output o (now (out .entry)))) ⌝ }
 {
     let made = root(g);
     let bytes = made.bytes;

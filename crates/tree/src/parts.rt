@@ -38,9 +38,13 @@ pub(crate) fn put_root(leaves: &[u8], from: usize, n: usize, out: &mut [u8], at:
 
 // Writes the inclusion path of a place of those n, joined, PATH of section 2.1.3.1, and tells how many bytes it is.
 pub(crate) fn path_into(leaves: &[u8], from: usize, n: usize, place: usize, out: &mut [u8]) -> usize
-    requires { ⌜ (place < n) × (32 * (from + n) ≤ length (now leaves)) × (length (joined (path sha256 place (nodesFrom from n (now leaves)))) ≤ length (now out)) ⌝ }
-    ensures { λ r. ⌜ r ≡ length (joined (path sha256 place (nodesFrom from n (now (leaves .entry))))) ⌝ }
-    ensures { λ _. ⌜ now (out .exit) ≡ over (joined (path sha256 place (nodesFrom from n (now (leaves .entry))))) (now (out .entry)) ⌝ }
+    requires { ⌜
+        (place < n)
+        × (32 * (from + n) ≤ length (now leaves))
+        × (length (joined (path sha256 place (nodesFrom from n (now leaves)))) ≤ length (now out)) ⌝ }
+    ensures { λ r. ⌜
+        (let w = joined (path sha256 place (nodesFrom from n (now (leaves .entry)))) in
+        (r ≡ length w) × (now (out .exit) ≡ over w (now (out .entry)))) ⌝ }
 {
     if n <= 1 {
         return 0;
@@ -63,9 +67,14 @@ pub(crate) fn proof_into(
     known: bool,
     out: &mut [u8],
 ) -> usize
-    requires { ⌜ (0 < m) × (m ≤ n) × (32 * (from + n) ≤ length (now leaves)) × (length (joined (subproof sha256 m (nodesFrom from n (now leaves)) known)) ≤ length (now out)) ⌝ }
-    ensures { λ r. ⌜ r ≡ length (joined (subproof sha256 m (nodesFrom from n (now (leaves .entry))) known)) ⌝ }
-    ensures { λ _. ⌜ now (out .exit) ≡ over (joined (subproof sha256 m (nodesFrom from n (now (leaves .entry))) known)) (now (out .entry)) ⌝ }
+    requires { ⌜
+        (0 < m)
+        × (m ≤ n)
+        × (32 * (from + n) ≤ length (now leaves))
+        × (length (joined (subproof sha256 m (nodesFrom from n (now leaves)) known)) ≤ length (now out)) ⌝ }
+    ensures { λ r. ⌜
+        (let w = joined (subproof sha256 m (nodesFrom from n (now (leaves .entry))) known) in
+        (r ≡ length w) × (now (out .exit) ≡ over w (now (out .entry)))) ⌝ }
 {
     if m == n {
         if known {

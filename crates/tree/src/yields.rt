@@ -67,8 +67,10 @@ pub(crate) fn consistency_roots(
     count: usize,
 ) -> Roots
     requires { ⌜ (0 < m) × (m ≤ n) × (count ≡ subproofCount m n known) × (32 * count ≤ length (now path)) ⌝ }
-    ensures { λ r. ⌜ r .old .bytes ≡ oldRoot sha256 m n known (first .bytes) (firstNodes count (now (path .entry))) ⌝ }
-    ensures { λ r. ⌜ r .new .bytes ≡ newRoot sha256 m n known (first .bytes) (firstNodes count (now (path .entry))) ⌝ }
+    ensures { λ r. ⌜
+        (let H = sha256 in
+        let p = firstNodes count (now (path .entry)) in
+        (r .old .bytes ≡ oldRoot H m n known (first .bytes) p) × (r .new .bytes ≡ newRoot H m n known (first .bytes) p)) ⌝ }
 {
     if m == n {
         if known {
@@ -108,8 +110,10 @@ pub(crate) fn consistency_roots(
 // Both roots by as many nodes as the definition counts, of any path; the first root for both where a first size of 0 or above the second
 // has no path, or the path has fewer nodes.
 pub fn yielded_roots(first: Digest, m: u64, n: u64, known: bool, path: &[u8]) -> Roots
-    ensures { λ r. ⌜ r .old .bytes ≡ yieldedOld sha256 m n known (first .bytes) (now (path .entry)) ⌝ }
-    ensures { λ r. ⌜ r .new .bytes ≡ yieldedNew sha256 m n known (first .bytes) (now (path .entry)) ⌝ }
+    ensures { λ r. ⌜
+        (let H = sha256 in
+        (r .old .bytes ≡ yieldedOld H m n known (first .bytes) (now (path .entry)))
+        × (r .new .bytes ≡ yieldedNew H m n known (first .bytes) (now (path .entry)))) ⌝ }
 {
     let count = subproof_count(m, n, known);
     if m == 0 || n < m || path.len() / 32 < count {
