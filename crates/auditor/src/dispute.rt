@@ -17,10 +17,10 @@ ghost use Prim.Native.Nat.{_-_, _*_, _≤_};
 ghost use lib.ListN.{length, take};
 ghost use Rattle.hash.specs.Digest.{sha256};
 ghost use Rattle.tree.specs.Verdict.{inclusionVerdict};
-ghost use Rattle.carry.specs.Forward.{carry as carryTo, carrying, report as carriedAs, pathAfter as carriedPath, pairAfter as carriedPair};
+ghost use Rattle.carry.specs.Forward.{carry as carryTo, carrying, carryReport, pathCarried, pairCarried};
 ghost use Rattle.carry.specs.Compare.{compare as compareTo};
 ghost use Rattle.auditor.specs.Heads.{sizeOf, rootOf, countOf, pathOf, headsOf};
-ghost use Rattle.auditor.specs.Dispute.{longestPath, settled, follow, settling, report, pairAfter};
+ghost use Rattle.auditor.specs.Dispute.{longestPath, settled, follow, settling, disputeReport, pairDisputed};
 ghost use Rattle.auditor.specs.Dispute as paper;
 
 // What a dispute answers: the pages are the same; two strings of nodes that differ and have one hash were written; the two pages, each with 0x00 before
@@ -62,9 +62,9 @@ fn over_head(
         (let s = now (heads .entry) in
         let o = carryTo sha256 (now (leaf .entry)) place m (sizeOf s) (now (root .entry)) (rootOf s) (now (path .entry)) (pathOf s) longestPath
         (length (now (pair .entry))) in
-        (carrying r ≡ carriedAs o)
-        × ((now (out .exit) ≡ carriedPath o (now (out .entry)))
-        × (now (pair .exit) ≡ carriedPair o (now (pair .entry))))) ⌝ }
+        (carrying r ≡ carryReport o)
+        × ((now (out .exit) ≡ pathCarried o (now (out .entry)))
+        × (now (pair .exit) ≡ pairCarried o (now (pair .entry))))) ⌝ }
 {
     let n = size_of(heads);
     carry(
@@ -98,7 +98,7 @@ fn settle(
         (let compared = compareTo sha256 place size (now (root .entry)) (now (leaf1 .entry)) (now (path1 .entry)) (now (leaf2 .entry)) (now (path2 .entry))
         (length (now (pair .entry))) in
         let o = settled (now (page1 .entry)) (now (page2 .entry)) compared in
-        (settling r ≡ report o) × (now (pair .exit) ≡ pairAfter o (now (pair .entry)))) ⌝ }
+        (settling r ≡ disputeReport o) × (now (pair .exit) ≡ pairDisputed o (now (pair .entry)))) ⌝ }
 {
     let compared = compare(place, size, root, leaf1, path1, leaf2, path2, pair);
     match compared {
@@ -135,7 +135,7 @@ fn work(
     ensures { λ r. ⌜
         (let o = follow sha256 place (now (page1 .entry)) (now (page2 .entry)) (now (path2 .entry)) (length (now (pair .entry)))
         (headsOf (now (heads .entry))) size (now (root .entry)) (now (path1 .entry)) in
-        (settling r ≡ report o) × (now (pair .exit) ≡ pairAfter o (now (pair .entry)))) ⌝ }
+        (settling r ≡ disputeReport o) × (now (pair .exit) ≡ pairDisputed o (now (pair .entry)))) ⌝ }
 {
     let leaf1 = one.bytes;
     let leaf2 = two.bytes;
@@ -191,7 +191,7 @@ fn work(
 
 // Two pages at one place, from the arguments of accepted calls alone: the first page, its place and path, the size and root of the head then held, the
 // heads accepted since, and the second page with its path. Order: 1 for either page; the first proof's verdict; over each head 2 where it is cut
-// short, then what carrying refuses; then what comparing refuses. The first collision met ends the work.
+// short, then what carrying refuses; then what comparing refuses. The first collision ends the work.
 pub fn dispute(
     page1: &[u8],
     place: u64,
@@ -206,7 +206,7 @@ pub fn dispute(
     ensures { λ r. ⌜
         (let o = paper.dispute sha256 (now (page1 .entry)) place (now (path1 .entry)) size (now (root .entry)) (headsOf (now (heads .entry)))
         (now (page2 .entry)) (now (path2 .entry)) (length (now (pair .entry))) in
-        (settling r ≡ report o) × (now (pair .exit) ≡ pairAfter o (now (pair .entry)))) ⌝ }
+        (settling r ≡ disputeReport o) × (now (pair .exit) ≡ pairDisputed o (now (pair .entry)))) ⌝ }
 {
     let first = hash::leaf(page1);
     if first.number != 0 {

@@ -6,7 +6,7 @@ ghost use Prim.Native.Nat.{_+_, _*_, _%_, _≤_};
 ghost use lib.ListN.{length};
 ghost use Rattle.item.specs.Steps.{put};
 ghost use Rattle.auditor.specs.Heads.{end, then, joinedHeads};
-ghost use Rattle.auditor.specs.Journal.{mostCount, report, journalAfter, appending};
+ghost use Rattle.auditor.specs.Journal.{mostCount, appendReport, journalAfter, appending};
 ghost use Rattle.auditor.specs.Journal as paper;
 
 // The most nodes that the two bytes of a count hold.
@@ -41,7 +41,7 @@ fn join(journal: &mut [u8], used: usize, size: u64, root: &[u8], path: &[u8])
 pub fn append(journal: &mut [u8], used: usize, size: u64, root: &[u8], path: &[u8]) -> Appended
     ensures { λ r. ⌜
         (let o = paper.append (length (now (journal .entry))) used size (now (root .entry)) (now (path .entry)) in
-        (appending r ≡ report used o) × (now (journal .exit) ≡ journalAfter used o (now (journal .entry)))) ⌝ }
+        (appending r ≡ appendReport used o) × (now (journal .exit) ≡ journalAfter used o (now (journal .entry)))) ⌝ }
 {
     if root.len() != 32 {
         return Appended::Refused(5);

@@ -6,6 +6,7 @@ ghost use mathlib.Core.List.{_++_};
 ghost use Prim.Native.Nat.{_+_, _-_, _*_, _≤_};
 ghost use lib.ListN.{length, take, drop};
 ghost use Rattle.tree.specs.Build.{over};
+ghost use Rattle.carry.specs.Limits.{pairBytes};
 ghost use Rattle.carry.specs.Strings.{string};
 ghost use Rattle.carry.specs.Inner.{Appends};
 
@@ -23,7 +24,7 @@ fn put_string(a: Digest, b: Digest, out: &mut [u8], at: usize)
 
 // Writes the two strings of the child pairs a, b and c, d at the start of a buffer.
 pub(crate) fn put_pair(a: Digest, b: Digest, c: Digest, d: Digest, out: &mut [u8])
-    requires { ⌜ 130 ≤ length (now out) ⌝ }
+    requires { ⌜ pairBytes ≤ length (now out) ⌝ }
     ensures { λ _. ⌜ now (out .exit) ≡ over (string (a .bytes) (b .bytes) ++ string (c .bytes) (d .bytes)) (now (out .entry)) ⌝ }
 {
     put_string(a, b, out, 0);

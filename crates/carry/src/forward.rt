@@ -3,6 +3,7 @@ use super::accept::agree;
 use super::accept::fits;
 use super::bytes::put_pair;
 use super::bytes::put_path;
+use super::limits::PAIR;
 use super::walk::walk;
 use tree::nodes::node_at;
 use tree::verdict::consistency_verdict;
@@ -13,7 +14,7 @@ ghost use Rattle.hash.specs.Digest.{sha256};
 ghost use Rattle.tree.specs.Verdict.{inclusionVerdict, consistencyVerdict};
 ghost use Rattle.sha256.specs.Told.{Told};
 ghost use Rattle.carry.specs.Inner.{either};
-ghost use Rattle.carry.specs.Forward.{carrying, report, pathAfter, pairAfter};
+ghost use Rattle.carry.specs.Forward.{carrying, carryReport, pathCarried, pairCarried};
 ghost use Rattle.carry.specs.Forward as paper;
 
 // What a carrying answers: how many bytes of path it wrote, that it wrote a collision, or the number of its refusal.
@@ -64,9 +65,9 @@ pub fn carry(
     ensures { λ r. ⌜
         (let o = paper.carry sha256 (now (leaf .entry)) place m n (now (old .entry)) (now (new .entry)) (now (path .entry)) (now (proof .entry))
         (length (now (out .entry))) (length (now (pair .entry))) in
-        (carrying r ≡ report o)
-        × ((now (out .exit) ≡ pathAfter o (now (out .entry)))
-        × (now (pair .exit) ≡ pairAfter o (now (pair .entry))))) ⌝ }
+        (carrying r ≡ carryReport o)
+        × ((now (out .exit) ≡ pathCarried o (now (out .entry)))
+        × (now (pair .exit) ≡ pairCarried o (now (pair .entry))))) ⌝ }
 {
     if !fits(
         leaf.len(),
@@ -94,9 +95,9 @@ pub fn carry(
         proof,
         q,
     );
-    let met = walked.met;
-    let one = met.one;
-    let two = met.two;
+    let recomputed = walked.recomputed;
+    let one = recomputed.one;
+    let two = recomputed.two;
     let whole = walked.new;
     if !agree(one, two, whole, old, new) {
         return refusal(leaf, place, m, n, old, new, path, proof);
@@ -107,14 +108,14 @@ pub fn carry(
     if out.len() / 32 < low + hashed + (q - high) {
         return Carried::Refused(9);
     }
-    if pair.len() < 130 {
+    if pair.len() < PAIR {
         return Carried::Refused(9);
     }
-    if met.apart {
-        let a = met.a;
-        let b = met.b;
-        let c = met.c;
-        let d = met.d;
+    if recomputed.apart {
+        let a = recomputed.a;
+        let b = recomputed.b;
+        let c = recomputed.c;
+        let d = recomputed.d;
         put_pair(a, b, c, d, pair);
         return Carried::Collision;
     }

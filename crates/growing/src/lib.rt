@@ -9,14 +9,14 @@ mod levels;
 ghost use mathlib.Core.Path.{_≡_};
 ghost use lib.ListN.{length};
 ghost use Rattle.hash.specs.Digest.{sha256};
-ghost use Rattle.tree.specs.Build.{building, report, output};
+ghost use Rattle.tree.specs.Build.{building, buildReport, output};
 ghost use Rattle.tree.specs.Claims.{OfEvery, OfEvery32};
 ghost use Rattle.growing.specs.Hashes.{fresh, rootNow};
 ghost use Rattle.growing.specs.Calls.{rootInto};
 ghost use Rattle.growing.specs.Claims.{FollowsAll, HoweverCut, AllTaken, Takes, PagesOrJoined, RefusedUnchanged};
 ghost use Rattle.growing.specs.Claims.{AcceptsAll, ShownAll, SameLeaves, AtSha256};
 use hash::Digest;
-use levels::none;
+use levels::no_hash;
 use levels::root_of;
 use tree::build::Built;
 use tree::nodes::copy;
@@ -39,7 +39,7 @@ pub struct Grown {
 pub fn new() -> Growing
     ensures { λ r. ⌜ r ≡ fresh ⌝ }
 {
-    let nothing = none();
+    let nothing = no_hash();
     Growing {
         hashes: [nothing; MOST_HASHES],
         count: 0,
@@ -57,7 +57,7 @@ pub fn root(g: Growing) -> Digest
 pub fn root_into(g: Growing, out: &mut [u8]) -> Built
     ensures { λ r. ⌜
         (let o = rootInto sha256 g (length (now (out .entry))) in
-        (building r ≡ report o) × (now (out .exit) ≡ output o (now (out .entry)))) ⌝ }
+        (building r ≡ buildReport o) × (now (out .exit) ≡ output o (now (out .entry)))) ⌝ }
 {
     let made = root(g);
     let bytes = made.bytes;

@@ -6,10 +6,10 @@ ghost use Rattle.hash.specs.Digest.{sha256, leafHash};
 ghost use Rattle.hash.specs.Answers.{mostInput, mostItem, intoNumber, intoBytes};
 ghost use Rattle.tree.specs.Verdict.{inclusionVerdict, consistencyVerdict};
 ghost use Rattle.sha256.specs.Told.{number};
-ghost use Rattle.tree.specs.Build.{building, report, output, rootBuilt};
+ghost use Rattle.tree.specs.Build.{building, buildReport, output, rootBuilt};
 ghost use Rattle.item.specs.Item.{reading, readItem, writing};
-ghost use Rattle.carry.specs.Forward.{carry, pathAfter, pairAfter, report as carryReport};
-ghost use Rattle.carry.specs.Compare.{compare, report as compareReport, pairAfter as comparePair};
+ghost use Rattle.carry.specs.Forward.{carry, pathCarried, pairCarried, carryReport};
+ghost use Rattle.carry.specs.Compare.{compare, compareReport, pairCompared};
 ghost use Rattle.mta.specs.Entries.{writtenAfter, collidedAfter, differedAfter, numberOf, placeOf, lengthAfter, sizesOf, consistencyWritten};
 ghost use Rattle.mta.specs.Judged.{ItemsAreJudged};
 ghost use Rattle.mta.specs.Slices.{nodeNumber, nodeBytes, wordsOf, wordsNumber, wordsAfter, scheduleAfter};
@@ -66,8 +66,8 @@ pub extern "C" fn mta_carry(
         (let o = carry sha256 (now (leaf .entry)) place m n (now (old .entry)) (now (new .entry)) (now (path .entry)) (now (proof .entry))
         (length (now (out .entry))) (length (now (pair .entry))) in
         (r ≡ number (carryReport o))
-        × ((now (out .exit) ≡ pathAfter o (now (out .entry)))
-        × ((now (pair .exit) ≡ pairAfter o (now (pair .entry)))
+        × ((now (out .exit) ≡ pathCarried o (now (out .entry)))
+        × ((now (pair .exit) ≡ pairCarried o (now (pair .entry)))
         × ((now (written .exit) ≡ writtenAfter (carryReport o) (now (written .entry)))
         × (now (collided .exit) ≡ collidedAfter (carryReport o) (now (collided .entry))))))) ⌝ }
 {
@@ -104,7 +104,7 @@ pub extern "C" fn mta_compare(
         (let o = compare sha256 place size (now (root .entry)) (now (leaf1 .entry)) (now (path1 .entry)) (now (leaf2 .entry)) (now (path2 .entry))
         (length (now (pair .entry))) in
         (r ≡ number (compareReport o))
-        × ((now (pair .exit) ≡ comparePair o (now (pair .entry)))
+        × ((now (pair .exit) ≡ pairCompared o (now (pair .entry)))
         × (now (collided .exit) ≡ differedAfter (compareReport o) (now (collided .entry))))) ⌝ }
 {
     match carry::compare::compare(place, size, root, leaf1, path1, leaf2, path2, pair) {
@@ -125,7 +125,7 @@ pub extern "C" fn mta_compare(
 pub extern "C" fn mta_root(leaves: &[u8], out: &mut [u8]) -> u32
     ensures { λ r. ⌜
         (let o = rootBuilt sha256 (now (leaves .entry)) (length (now (out .entry))) in
-        (r ≡ number (report o)) × (now (out .exit) ≡ output o (now (out .entry)))) ⌝ }
+        (r ≡ number (buildReport o)) × (now (out .exit) ≡ output o (now (out .entry)))) ⌝ }
 {
     built(tree::build::root(leaves, out))
 }
@@ -144,7 +144,7 @@ struct Refusal {
     place: usize,
 }
 
-fn none() -> Refusal
+fn not_refused() -> Refusal
     ensures { λ r. ⌜ (r .number ≡ 0) × (r .place ≡ 0) ⌝ }
 {
     Refusal {
@@ -164,14 +164,14 @@ fn refused(i: Item) -> Refusal
             issuer_key_hash: _,
             certificate: _,
             extensions: _,
-        } => none(),
+        } => not_refused(),
         Item::Receipt {
             kind: _,
             log_id: _,
             timestamp: _,
             extensions: _,
             signature: _,
-        } => none(),
+        } => not_refused(),
         Item::SignedHead {
             kind: _,
             log_id: _,
@@ -180,28 +180,28 @@ fn refused(i: Item) -> Refusal
             root_hash: _,
             extensions: _,
             signature: _,
-        } => none(),
+        } => not_refused(),
         Item::Consistency {
             kind: _,
             log_id: _,
             size_one: _,
             size_two: _,
             path: _,
-        } => none(),
+        } => not_refused(),
         Item::Inclusion {
             kind: _,
             log_id: _,
             size: _,
             place: _,
             path: _,
-        } => none(),
+        } => not_refused(),
         Item::Page {
             kind: _,
             timestamp: _,
             agreement: _,
             page: _,
             body: _,
-        } => none(),
+        } => not_refused(),
         Item::Refused { number, place } => Refusal { number, place },
     }
 }
@@ -250,18 +250,18 @@ pub extern "C" fn mta_consistency_item<'a>(
         × ((now (out .exit) ≡ o .bytes)
         × (now (written .exit) ≡ lengthAfter (o .answer) (now (written .entry))))) ⌝ }
 {
-    let none = &log[..0];
+    let empty = &log[..0];
     match item::write(
         0x0105,
         sizes(first, second),
         log,
-        none,
-        none,
-        none,
-        none,
-        none,
+        empty,
+        empty,
+        empty,
+        empty,
+        empty,
         path,
-        none,
+        empty,
         out,
     ) {
         Written::Length(length) => {

@@ -1,7 +1,7 @@
 // Recursions on the two parts of a list of leaf hashes that are joined in a buffer: n of them, from an index on. The count falls.
 use super::nodes::node_at;
 use super::nodes::put_node;
-use super::split::cut;
+use super::split::split_of;
 use hash::Digest;
 ghost use mathlib.Core.Path.{_≡_};
 ghost use Prim.Native.Nat.{_+_, _*_, _≤_, _<_};
@@ -20,7 +20,7 @@ pub(crate) fn part_root(leaves: &[u8], from: usize, n: usize) -> Digest
     if n == 1 {
         return node_at(leaves, from);
     }
-    let k = cut(n as u64) as usize;
+    let k = split_of(n as u64) as usize;
     let low = part_root(leaves, from, k);
     let high = part_root(leaves, from + k, n - k);
     hash::node(low, high)
@@ -49,7 +49,7 @@ pub(crate) fn path_into(leaves: &[u8], from: usize, n: usize, place: usize, out:
     if n <= 1 {
         return 0;
     }
-    let k = cut(n as u64) as usize;
+    let k = split_of(n as u64) as usize;
     if place < k {
         let c = path_into(leaves, from, k, place, out);
         return put_root(leaves, from + k, n - k, out, c);
@@ -82,7 +82,7 @@ pub(crate) fn proof_into(
         }
         return put_root(leaves, from, n, out, 0);
     }
-    let k = cut(n as u64) as usize;
+    let k = split_of(n as u64) as usize;
     if m <= k {
         let c = proof_into(leaves, from, k, m, known, out);
         return put_root(leaves, from + k, n - k, out, c);

@@ -3,7 +3,7 @@
 use super::count::inclusion_count;
 use super::count::subproof_count;
 use super::nodes::node_at;
-use super::split::cut;
+use super::split::split_of;
 use hash::Digest;
 ghost use mathlib.Core.Path.{_≡_};
 ghost use Prim.Native.Nat.{_*_, _≤_, _<_};
@@ -27,7 +27,7 @@ pub(crate) fn inclusion_root(
     if size <= 1 {
         return leaf;
     }
-    let k = cut(size);
+    let k = split_of(size);
     let c = count - 1;
     if place < k {
         let low = inclusion_root(leaf, place, k, path, c);
@@ -85,7 +85,7 @@ pub(crate) fn consistency_roots(
             new: only,
         };
     }
-    let k = cut(n);
+    let k = split_of(n);
     let c = count - 1;
     if m <= k {
         let low = consistency_roots(first, m, k, known, path, c);
