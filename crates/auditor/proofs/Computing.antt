@@ -4,17 +4,17 @@ use Rattle.tree.specs.Split.{doubled, split, size, shapeIn, shape}
 use Rattle.tree.specs.Tree.{node}
 use Rattle.tree.specs.Count.{inclusionCountOf, inclusionCount, subproofCountOf, subproofCount, consistencyCount}
 use Rattle.tree.specs.Yield.{init, last, inclusionRootOf, inclusionRoot, consistencyRootOf, oldRoot, newRoot}
-use Rattle.octets.specs.Bytes.{same, over}
-use Rattle.tree.specs.Joined.{firstNodes, nodes, joined}
-use Rattle.tree.specs.Verdict.{judged, noPlace, noSizes, inclusionVerdict, consistencyVerdict}
-use Rattle.octets.specs.Numbers.{be, unbe}
+use Rattle.tree.specs.Joined.{firstNodes, nodes, joined, same}
+use Rattle.tree.specs.Verdict.{judged, unless, noPlace, noSizes, inclusionVerdict, consistencyVerdict}
+use Rattle.tree.specs.Build.{over}
+use Rattle.item.specs.Layout.{be, unbe}
 use Rattle.carry.specs.Strings.{topmost}
 use Rattle.carry.specs.Forward as forward
 use Rattle.carry.specs.Compare as compare
 use Rattle.auditor.specs.Heads.{joinedHeads, headBytes, headsIn}
-use Rattle.auditor.specs.Dispute.{pairAfter, onward, settled, unless, follow, dispute}
+use Rattle.auditor.specs.Dispute.{pairDisputed, onward, settled, follow, dispute}
 use Rattle.auditor.specs.Examples.{Disputed}
 
 pub disputed : Disputed
-unfolding doubled split size shapeIn shape node inclusionCountOf inclusionCount subproofCountOf subproofCount consistencyCount init last inclusionRootOf inclusionRoot consistencyRootOf oldRoot newRoot firstNodes nodes joined same judged noPlace noSizes inclusionVerdict consistencyVerdict over be unbe topmost forward.unless forward.settled forward.conflictOf forward.conflict forward.forwardOf forward.forward forward.carry compare.unless compare.found compare.differOf compare.differ compare.compare joinedHeads headBytes headsIn pairAfter onward settled unless follow dispute
+unfolding doubled split size shapeIn shape node inclusionCountOf inclusionCount subproofCountOf subproofCount consistencyCount init last inclusionRootOf inclusionRoot consistencyRootOf oldRoot newRoot firstNodes nodes joined same judged unless noPlace noSizes inclusionVerdict consistencyVerdict over be unbe topmost forward.forwarded forward.conflictOf forward.conflict forward.forwardOf forward.forward forward.carry compare.found compare.differOf compare.differ compare.compare joinedHeads headBytes headsIn pairDisputed onward settled follow dispute
 disputed = ((refl, refl), ((refl, refl), ((refl, refl), ((refl, refl), ((refl, refl), ((refl, refl), ((refl, refl), ((refl, refl), ((refl, refl), ((refl, refl), ((refl, refl), ((refl, refl), tt))))))))))))

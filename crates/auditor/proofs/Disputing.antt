@@ -7,12 +7,12 @@ use native.Mathlib.Omega.{arith}
 use lib.Dec.{ltb}
 use lib.ListN.{length}
 use borrow.Author.Tests.{eq-eqb, ne-eqb}
-use Rattle.octets.specs.Limits.{mostItem}
-use Rattle.tree.specs.Verdict.{inclusionVerdict}
+use Rattle.hash.specs.Answers.{mostItem}
+use Rattle.tree.specs.Verdict.{unless, inclusionVerdict}
 use Rattle.tree.proofs.Counting.{bounds}
 use Rattle.tree.proofs.Accepting.{inclusion-accepted}
 use Rattle.auditor.specs.Heads.{Heads}
-use Rattle.auditor.specs.Dispute.{refused, unless, longestPath, follow, dispute}
+use Rattle.auditor.specs.Dispute.{refused, longestPath, follow, dispute}
 
 module _ (H : List ℕ → List ℕ) (page₁ : List ℕ) (place : ℕ) (path₁ : List ℕ) (size : ℕ) (root : List ℕ) (heads : Heads) (page₂ path₂ : List ℕ) (pair : ℕ) where
   pub first-long : ltb mostItem (length page₁) ≡ true → dispute H page₁ place path₁ size root heads page₂ path₂ pair ≡ refused 1

@@ -14,17 +14,17 @@ use Rattle.auditor.specs.declared.dispute.Settled.the-variants.{Same, No
 use Rattle.auditor.specs.declared.journal.Appended.the-variants.{Used}
 use Rattle.hash.specs.Digest.{sha256}
 use Rattle.tree.specs.Build.{Outcome, wrote}
-use Rattle.octets.specs.Bytes.{put}
-use Rattle.auditor.specs.Held.{none}
+use Rattle.item.specs.Steps.{put}
+use Rattle.auditor.specs.Held.{emptyRecord}
 use Rattle.auditor.specs.Offer.{offered}
 use Rattle.auditor.specs.Page.{asked}
 use Rattle.auditor.specs.Heads.{lastSize, lastRoot, joinedHeads, headsOf}
 use Rattle.auditor.specs.Calls.{Call, offer, ask, Entry, answered, called, answers, final, heads}
-use Rattle.auditor.specs.Dispute.{Ruling, samePage, ofNodes, ofPages, settling, report as outcome, pairAfter, dispute}
-use Rattle.auditor.specs.Demand.{Tells, Settles, WhateverGiven, Demand3}
-use Rattle.octets.specs.Answer.{Answer, done, refused}
-use Rattle.auditor.specs.Journal.{append, report, journalAfter}
-use Rattle.auditor.specs.Keeping.{kept, noted, onward, journaled, AsKept}
+use Rattle.auditor.specs.Dispute.{Ruling, samePage, ofNodes, ofPages, settling, disputeReport, pairDisputed, dispute}
+use Rattle.auditor.specs.Demand.{Sound, Settles, WhateverGiven, Demand3}
+use Rattle.sha256.specs.Told.{Told, done, refused}
+use Rattle.auditor.specs.Journal.{append, appendReport, journalAfter}
+use Rattle.auditor.specs.Keeping.{kept, noted, ifKept, journaled, AsKept}
 use Rattle.auditor.proofs.Settling.{whatever-given, demand3}
 use Rattle.auditor.proofs.Keeping.{no-lost, as-kept}
 use Rattle.auditor.proofs.empty.Reads as empty-reads
@@ -32,6 +32,7 @@ use Rattle.auditor.proofs.head.offer.Reads as offer-reads
 use Rattle.auditor.proofs.page.ask.Reads as ask-reads
 use Rattle.auditor.proofs.dispute.dispute.Reads as dispute-reads
 use Rattle.auditor.proofs.journal.append.Reads as append-reads
+use Rattle.carry.specs.Limits.{pairBytes}
 
 -- what was called and answered, where each call got the record that the one before returned, and the record after it
 pub data Run : Record → List Entry → Record → Type 0 where
@@ -67,7 +68,7 @@ listed r s es (asks κs place page path o p rest) =
 pub tells :
     (κs : Lfts 7) (place size : ℕ) (page₁ path₁ root between page₂ path₂ pair pair′ : RefT (List ℕ)) (d : Settled) →
     dispute-reads.Learnt κs (page₁, (place, (path₁, (size, (root, (between, (page₂, (path₂, (pair, tt))))))))) d (page₁, (place, (path₁, (size, (root, (between, (page₂, (path₂, (pair′, tt))))))))) →
-    Tells (page₁ .now) (page₂ .now) (settling d) (pair′ .now)
+    Sound (page₁ .now) (page₂ .now) (settling d) (pair′ .now)
 tells κs place size page₁ path₁ root between page₂ path₂ pair pair′ d p =
     rw (p .0, p .1) (whatever-given (page₁ .now) place (path₁ .now) size (root .now) (between .now) (page₂ .now) (path₂ .now) (pair .now))
 
@@ -77,7 +78,7 @@ pub every :
     (before between rest : List Entry) (place : ℕ) (page₁ path₁ page₂ path₂ : RefT (List ℕ)) →
     Run start (before ++ (answered (ask place (page₁ .now) (path₁ .now)) 0 ∷ (between ++ (answered (ask place (page₂ .now) (path₂ .now)) 0 ∷ rest)))) end →
     (κs : Lfts 7) (size : ℕ) (root joined pair pair′ : RefT (List ℕ)) (d : Settled) →
-    size ≡ lastSize 0 (heads before) → root .now ≡ lastRoot [] (heads before) → joined .now ≡ joinedHeads (heads between) → 130 ≤ length (pair .now) →
+    size ≡ lastSize 0 (heads before) → root .now ≡ lastRoot [] (heads before) → joined .now ≡ joinedHeads (heads between) → pairBytes ≤ length (pair .now) →
     dispute-reads.Learnt κs (page₁, (place, (path₁, (size, (root, (joined, (page₂, (path₂, (pair, tt))))))))) d (page₁, (place, (path₁, (size, (root, (joined, (page₂, (path₂, (pair′, tt))))))))) →
     Settles (page₁ .now) (page₂ .now) (settling d) (pair′ .now)
 unfolding Lists
@@ -117,9 +118,9 @@ ran r s es lent bytes start used (refuses κs id time size root path o p z rest)
 ran r s es lent bytes start used (asks κs place page path o p rest) = asks κs place page path o p (ran (o .after) s _ lent bytes start used rest)
 
 appended : (id : List ℕ) (time size : ℕ) (root path lent left bytes : List ℕ) (start more used n : ℕ) (es : List Entry) → n ≡ 0 →
-    (let o = append (length lent) start size root path in (done more ≡ report start o) × (left ≡ journalAfter start o lent)) → journaled es left more ≡ kept bytes used →
+    (let o = append (length lent) start size root path in (done more ≡ appendReport start o) × (left ≡ journalAfter start o lent)) → journaled es left more ≡ kept bytes used →
     journaled (answered (offer id time size root path) n ∷ es) lent start ≡ kept bytes used
-unfolding journaled noted onward
+unfolding journaled noted ifKept
 appended id time size root path lent left bytes start more used n es z p e = rw (z, ← (p .0), ← (p .1)) e
 
 passed-over : (id : List ℕ) (time size : ℕ) (root path lent : List ℕ) (start n : ℕ) (es : List Entry) → (n ≡ 0 → ⊥) → journaled (answered (offer id time size root path) n ∷ es) lent start ≡ journaled es lent start
@@ -145,21 +146,21 @@ pub every-kept :
     Journals (first .after) between held₂ lent 0 bytes used →
     ask-reads.Learnt κs₂ (held₂, (place, (page₂, (path₂, tt)))) second (held₂, (place, (page₂, (path₂, tt)))) → second .number ≡ 0 →
     (κs : Lfts 7) (root joined pair pair′ : RefT (List ℕ)) (d : Settled) →
-    root .now ≡ held .root → joined .now ≡ take used bytes → 130 ≤ length (pair .now) →
+    root .now ≡ held .root → joined .now ≡ take used bytes → pairBytes ≤ length (pair .now) →
     dispute-reads.Learnt κs (page₁, (place, (path₁, (held .size, (root, (joined, (page₂, (path₂, (pair, tt))))))))) d (page₁, (place, (path₁, (held .size, (root, (joined, (page₂, (path₂, (pair′, tt))))))))) →
     Settles (page₁ .now) (page₂ .now) (settling d) (pair′ .now)
 unfolding Lists called
 every-kept start held held₂ s before between place page₁ path₁ page₂ path₂ κs₁ κs₂ first second lent bytes used run a z js b y κs root joined pair pair′ d er ej long p =
     let w = listed start held before run in
     let v = listed (first .after) held₂ between (ran (first .after) held₂ between lent bytes 0 used js) in
-    let e : final none (w .0) ≡ held = ap (λ (r : Record). final r (w .0)) (sym s) ∙ w .1 .1 in
+    let e : final emptyRecord (w .0) ≡ held = ap (λ (r : Record). final r (w .0)) (sym s) ∙ w .1 .1 in
     let c₁ = ask place (page₁ .now) (path₁ .now) in
     let c₂ = ask place (page₂ .now) (path₂ .now) in
-    let g : called (final none (w .0)) c₁ ≡ first = ap (λ (r : Record). called r c₁) e ∙ sym a in
-    let j : journaled (answers (called (final none (w .0)) c₁ .after) (v .0)) lent 0 ≡ kept bytes used =
+    let g : called (final emptyRecord (w .0)) c₁ ≡ first = ap (λ (r : Record). called r c₁) e ∙ sym a in
+    let j : journaled (answers (called (final emptyRecord (w .0)) c₁ .after) (v .0)) lent 0 ≡ kept bytes used =
     ap (λ (o : Answered). journaled (answers (o .after) (v .0)) lent 0) g ∙ ap (λ (es : List Entry). journaled es lent 0) (v .1 .0)
     ∙ its-journal (first .after) held₂ between lent bytes 0 used js in
-    let f : called (final (called (final none (w .0)) c₁ .after) (v .0)) c₂ ≡ second =
+    let f : called (final (called (final emptyRecord (w .0)) c₁ .after) (v .0)) c₂ ≡ second =
     ap (λ (o : Answered). called (final (o .after) (v .0)) c₂) g ∙ ap (λ (r : Record). called r c₂) (v .1 .1) ∙ sym b in
     let k = as-kept (w .0) (v .0) place (page₁ .now) (path₁ .now) (page₂ .now) (path₂ .now) lent bytes used (pair .now)
     (ap (λ (o : Answered). o .number) g ∙ z) j (ap (λ (o : Answered). o .number) f ∙ y) long in
@@ -192,10 +193,10 @@ runs r (offer id time size root path ∷ calls) =
 runs r (ask place page path ∷ calls) = asks ([], ([], tt)) place (ref page) (ref path) (asked r place page path) refl (runs (asked r place page path .after) calls)
 
 takes-one : (r s : Record) (es : List Entry) (id : List ℕ) (time size : ℕ) (root path lent bytes : List ℕ) (start used : ℕ) (w : Outcome) → append (length lent) start size root path ≡ w →
-    offered r id time size root path .number ≡ 0 → onward (noted (journalAfter start w lent) (report start w)) (journaled es) ≡ kept bytes used →
+    offered r id time size root path .number ≡ 0 → ifKept (noted (journalAfter start w lent) (appendReport start w)) (journaled es) ≡ kept bytes used →
     ((l : List ℕ) (u : ℕ) → journaled es l u ≡ kept bytes used → Journals (offered r id time size root path .after) es s l u bytes used) →
     Journals r (answered (offer id time size root path) (offered r id time size root path .number) ∷ es) s lent start bytes used
-unfolding ref noted onward report journalAfter
+unfolding ref noted ifKept appendReport journalAfter
 takes-one r s es id time size root path lent bytes start used (Outcome.refused n) q z e i = absurd (no-lost bytes used n e)
 takes-one r s es id time size root path lent bytes start used (wrote x) q z e i =
     takes ([], ([], ([], tt))) (ref id) time size (ref root) (ref path) (offered r id time size root path) refl z ([], ([], ([], tt))) (ref lent) (ref (put lent start x)) start (start + length x)
@@ -234,8 +235,8 @@ pub whatever-claimed : WhateverGiven
 unfolding ref
 whatever-claimed page₁ place path₁ size root between page₂ path₂ pair =
     let d = dispute sha256 page₁ place path₁ size root (headsOf between) page₂ path₂ (length pair) in
-    rw (said-is (outcome d)) at
-    (tells seven place size (ref page₁) (ref path₁) (ref root) (ref between) (ref page₂) (ref path₂) (ref pair) (ref (pairAfter d pair)) (said (outcome d)) (said-is (outcome d), refl))
+    rw (said-is (disputeReport d)) at
+    (tells seven place size (ref page₁) (ref path₁) (ref root) (ref between) (ref page₂) (ref path₂) (ref pair) (ref (pairDisputed d pair)) (said (disputeReport d)) (said-is (disputeReport d), refl))
 
 pub demand3-claimed : Demand3
 unfolding ref
@@ -244,19 +245,19 @@ demand3-claimed calls before between rest place page₁ path₁ page₂ path₂ 
     let r = lastRoot [] (heads before) in
     let h = joinedHeads (heads between) in
     let d = dispute sha256 page₁ place path₁ m r (headsOf h) page₂ path₂ (length pair) in
-    let run : Run none (before ++ (answered (ask place page₁ path₁) 0 ∷ (between ++ (answered (ask place page₂ path₂) 0 ∷ rest)))) (final none calls) = rw e at (runs none calls) in
-    rw (said-is (outcome d)) at
-    (every none (final none calls) refl before between rest place (ref page₁) (ref path₁) (ref page₂) (ref path₂) run seven m (ref r) (ref h) (ref pair) (ref (pairAfter d pair)) (said (outcome d))
-    refl refl refl long (said-is (outcome d), refl))
+    let run : Run emptyRecord (before ++ (answered (ask place page₁ path₁) 0 ∷ (between ++ (answered (ask place page₂ path₂) 0 ∷ rest)))) (final emptyRecord calls) = rw e at (runs emptyRecord calls) in
+    rw (said-is (disputeReport d)) at
+    (every emptyRecord (final emptyRecord calls) refl before between rest place (ref page₁) (ref path₁) (ref page₂) (ref path₂) run seven m (ref r) (ref h) (ref pair) (ref (pairDisputed d pair)) (said (disputeReport d))
+    refl refl refl long (said-is (disputeReport d), refl))
 
 pub kept-claimed : AsKept
 unfolding ref called
 kept-claimed earlier between place page₁ path₁ page₂ path₂ lent bytes used pair a j b long =
-    let held = final none earlier in
+    let held = final emptyRecord earlier in
     let first = asked held place page₁ path₁ in
     let held₂ = final (first .after) between in
     let d = dispute sha256 page₁ place path₁ (held .size) (held .root) (headsOf (take used bytes)) page₂ path₂ (length pair) in
-    rw (said-is (outcome d)) at
-    (every-kept none held held₂ refl (answers none earlier) (answers (first .after) between) place (ref page₁) (ref path₁) (ref page₂) (ref path₂) ([], ([], tt)) ([], ([], tt)) first (asked held₂ place page₂ path₂) lent bytes used
-    (runs none earlier) refl a (journals (first .after) between lent bytes 0 used j) refl b seven (ref (held .root)) (ref (take used bytes)) (ref pair) (ref (pairAfter d pair)) (said (outcome d))
-    refl refl long (said-is (outcome d), refl))
+    rw (said-is (disputeReport d)) at
+    (every-kept emptyRecord held held₂ refl (answers emptyRecord earlier) (answers (first .after) between) place (ref page₁) (ref path₁) (ref page₂) (ref path₂) ([], ([], tt)) ([], ([], tt)) first (asked held₂ place page₂ path₂) lent bytes used
+    (runs emptyRecord earlier) refl a (journals (first .after) between lent bytes 0 used j) refl b seven (ref (held .root)) (ref (take used bytes)) (ref pair) (ref (pairDisputed d pair)) (said (disputeReport d))
+    refl refl long (said-is (disputeReport d), refl))

@@ -9,7 +9,7 @@ use Rattle.carry.specs.Forward.{carry}
 use Rattle.carry.specs.Compare.{compare}
 use Rattle.auditor.specs.Heads.{sizeOf, rootOf, pathOf, headBytes, headsOf}
 use Rattle.auditor.specs.Dispute.{Finding, refused, settled, onward, longestPath, follow}
-use Rattle.auditor.proofs.Reading.{heads-end, heads-cut, heads-then}
+use Rattle.auditor.proofs.Reading.{heads-end, heads-truncated, heads-then}
 
 -- the rest of a buffer, as the code takes it
 pub rest-is : (s : List ℕ) (at : ℕ) → take (length s - at) (drop at s) ≡ drop at s
@@ -31,11 +31,11 @@ module _ (H : List ℕ → List ℕ) (place : ℕ) (page₁ page₂ path₂ head
     bytes : headBytes (drop at heads) ≡ n
     bytes = ap headBytes (sym e) ∙ sym f
 
-    pub left-cut : at < length heads → n ≡ 0 → Left at m r p ≡ refused 2
+    pub left-truncated : at < length heads → n ≡ 0 → Left at m r p ≡ refused 2
     unfolding follow
-    left-cut h z =
+    left-truncated h z =
         let d = length-drop at heads in
-        rw (heads-cut (drop at heads) (λ y. omega arith) (bytes ∙ z))
+        rw (heads-truncated (drop at heads) (λ y. omega arith) (bytes ∙ z))
 
     pub left-then :
         (leaf : List ℕ) (l : ℕ) → (n ≡ 0 → ⊥) → leaf ≡ H (0 ∷ page₁) → l ≡ pair →

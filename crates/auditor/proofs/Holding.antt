@@ -18,11 +18,11 @@ use Rattle.tree.specs.Verdict.{inclusionVerdict, consistencyVerdict}
 use Rattle.tree.proofs.Counting.{bounds}
 use Rattle.tree.proofs.Accepting.{pass, consistency-accepted}
 use Rattle.auditor.specs.declared.Record.{Record}
-use Rattle.auditor.specs.Held.{Held, empty, head, view, none, holding}
+use Rattle.auditor.specs.Held.{Held, empty, head, view, emptyRecord, holding}
 use Rattle.auditor.specs.Offer.{offerNumber, kept, keptRecord, offered}
 use Rattle.auditor.specs.Page.{pageNumber, asked}
 use Rattle.auditor.specs.Heads.{Heads, then}
-use Rattle.auditor.specs.Calls.{Call, offer, ask, Entry, answered, called, answers, final, callOf, accepted, number, after, run, heads}
+use Rattle.auditor.specs.Calls.{Call, offer, ask, Entry, answered, called, answers, final, callOf, accepted, paperNumber, paperAfter, run, heads}
 use Rattle.auditor.specs.Timestamps.{OneHeadEach, OneTimestamp}
 use Rattle.auditor.specs.Claims.{lastHead, HeldIsAccepted, RefusedAddNothing, NeverBack}
 use Rattle.auditor.proofs.Offering.{taken}
@@ -35,7 +35,7 @@ view-kept r id time size root zero = ap (λ (x : List ℕ). head x time size roo
 view-kept r id time size root (suc n) = refl
 
 same-run : (calls : List Call) (r : Record) → answers r calls ≡ run sha256 (view r) calls
-unfolding answers run called offered asked number after
+unfolding answers run called offered asked paperNumber paperAfter
 same-run [] r = refl
 same-run (offer id time size root path ∷ calls) r =
     let n = offerNumber sha256 (view r) id time size root path in
@@ -44,13 +44,13 @@ same-run (offer id time size root path ∷ calls) r =
 same-run (ask place page path ∷ calls) r =
     ap (λ (es : List Entry). answered (ask place page path) (pageNumber sha256 (view r) place page path) ∷ es) (same-run calls r)
 
-view-none : view none ≡ empty
-unfolding view none
+view-none : view emptyRecord ≡ empty
+unfolding view emptyRecord
 view-none = refl
 
 -- what the code answers from its empty record is what the paper says
-pub same-answers : (calls : List Call) → answers none calls ≡ run sha256 empty calls
-same-answers calls = same-run calls none ∙ ap (λ (held : Held). run sha256 held calls) view-none
+pub same-answers : (calls : List Call) → answers emptyRecord calls ≡ run sha256 empty calls
+same-answers calls = same-run calls emptyRecord ∙ ap (λ (held : Held). run sha256 held calls) view-none
 
 -- an entry of an offer
 last-offer : (held : Held) (id : List ℕ) (time size : ℕ) (root path : List ℕ) (n : ℕ) (es : List Entry) → lastHead (kept held id time size root n) es ≡ lastHead held (answered (offer id time size root path) n ∷ es)
@@ -68,7 +68,7 @@ held-last (offer id time size root path ∷ calls) r =
 held-last (ask place page path ∷ calls) r = held-last calls r
 
 pub held-is-accepted : HeldIsAccepted
-held-is-accepted calls = held-last calls none ∙ ap (λ (held : Held). lastHead held (answers none calls)) view-none
+held-is-accepted calls = held-last calls emptyRecord ∙ ap (λ (held : Held). lastHead held (answers emptyRecord calls)) view-none
 
 -- a call that answers no 0 returns the record that it got
 stays : (r : Record) (c : Call) (n : ℕ) → called r c .number ≡ suc n → called r c .after ≡ r
@@ -95,16 +95,16 @@ module _ (H : List ℕ → List ℕ) where
   -- each entry's number is what its call answers over the record then held
   unfoldable pub Runs : Held → List Entry → Type 0
   Runs held [] = Unit {0}
-  Runs held (answered c n ∷ es) = (number H held c ≡ n) × Runs (after H held c n) es
+  Runs held (answered c n ∷ es) = (paperNumber H held c ≡ n) × Runs (paperAfter H held c n) es
 
   pub runs : (calls : List Call) (held : Held) → Runs held (run H held calls)
   unfolding Runs run
   runs [] held = tt
-  runs (c ∷ calls) held = (refl, runs calls (after H held c (number H held c)))
+  runs (c ∷ calls) held = (refl, runs calls (paperAfter H held c (paperNumber H held c)))
 
   -- the entries after some are a run over the record that these leave
   pub later : (es fs : List Entry) (held : Held) → Runs held (es ++ fs) → Runs (lastHead held es) fs
-  unfolding Runs after kept lastHead
+  unfolding Runs paperAfter kept lastHead
   later [] fs held w = w
   later (answered (offer id time size root path) zero ∷ es) fs held w = later es fs (head id time size root) (w .1)
   later (answered (offer id time size root path) (suc n) ∷ es) fs held w = later es fs held (w .1)
@@ -124,8 +124,8 @@ module _ (H : List ℕ → List ℕ) where
       (id ≡ id₂) × (size ≤ size₂) × (time ≤ time₂) × (size ≡ size₂ → root ≡ root₂) × (time ≡ time₂ → (size ≡ size₂) × (root ≡ root₂))
 
   module _ (id : List ℕ) (time size : ℕ) (root : List ℕ) where
-    since-offer : (held : Held) (id₂ : List ℕ) (time₂ size₂ : ℕ) (root₂ path₂ : List ℕ) → Since id time size root held → number H held (offer id₂ time₂ size₂ root₂ path₂) ≡ 0 → Since id time size root (head id₂ time₂ size₂ root₂)
-    unfolding Since number
+    since-offer : (held : Held) (id₂ : List ℕ) (time₂ size₂ : ℕ) (root₂ path₂ : List ℕ) → Since id time size root held → paperNumber H held (offer id₂ time₂ size₂ root₂ path₂) ≡ 0 → Since id time size root (head id₂ time₂ size₂ root₂)
+    unfolding Since paperNumber
     since-offer empty id₂ time₂ size₂ root₂ path₂ s e = absurd s
     since-offer (head id₁ time₁ size₁ root₁) id₂ time₂ size₂ root₂ path₂ s e =
         let t = taken H id₁ time₁ size₁ root₁ id₂ time₂ size₂ root₂ path₂ e in
@@ -142,7 +142,7 @@ module _ (H : List ℕ → List ℕ) where
         )
 
     since : (es fs : List Entry) (held : Held) → Since id time size root held → Runs held (es ++ fs) → Since id time size root (lastHead held es)
-    unfolding Since Runs after kept lastHead
+    unfolding Since Runs paperAfter kept lastHead
     since [] fs held s w = s
     since (answered (offer id₂ time₂ size₂ root₂ path₂) zero ∷ es) fs held s w =
         since es fs (head id₂ time₂ size₂ root₂) (since-offer held id₂ time₂ size₂ root₂ path₂ s (w .0)) (w .1)
@@ -152,7 +152,7 @@ module _ (H : List ℕ → List ℕ) where
   never : (calls : List Call) (before between rest : List Entry) (id₁ id₂ : List ℕ) (time₁ time₂ size₁ size₂ : ℕ) (root₁ root₂ path₁ path₂ : List ℕ) →
       run H empty calls ≡ before ++ (answered (offer id₁ time₁ size₁ root₁ path₁) 0 ∷ (between ++ (answered (offer id₂ time₂ size₂ root₂ path₂) 0 ∷ rest))) →
       Since id₁ time₁ size₁ root₁ (head id₂ time₂ size₂ root₂)
-  unfolding Runs after kept Since
+  unfolding Runs paperAfter kept Since
   never calls before between rest id₁ id₂ time₁ time₂ size₁ size₂ root₁ root₂ path₁ path₂ e =
       let w : Runs empty (before ++ (answered (offer id₁ time₁ size₁ root₁ path₁) 0 ∷ (between ++ (answered (offer id₂ time₂ size₂ root₂ path₂) 0 ∷ rest)))) = rw e at (runs calls empty) in
       let l = later before (answered (offer id₁ time₁ size₁ root₁ path₁) 0 ∷ (between ++ (answered (offer id₂ time₂ size₂ root₂ path₂) 0 ∷ rest))) empty w in
@@ -166,8 +166,8 @@ module _ (H : List ℕ → List ℕ) where
   Some empty = ⊥
   Some (head id time size root) = Unit {0}
 
-  pub some-page : (held : Held) (place : ℕ) (page path : List ℕ) → number H held (ask place page path) ≡ 0 → Some held
-  unfolding number pageNumber Some
+  pub some-page : (held : Held) (place : ℕ) (page path : List ℕ) → paperNumber H held (ask place page path) ≡ 0 → Some held
+  unfolding paperNumber pageNumber Some
   some-page empty place page path e = absurd (omega arith)
   some-page (head id time size root) place page path e = tt
 
@@ -182,14 +182,14 @@ module _ (H : List ℕ → List ℕ) where
       small : (k : ℕ) → k ≤ largestSize → k < 256 ^ 8
       small k h = omega arith
 
-  head-fits : (held : Held) (id : List ℕ) (time size : ℕ) (root path : List ℕ) (hs : Heads) → Some held → number H held (offer id time size root path) ≡ 0 → Fits hs → Fits (then size root path hs)
-  unfolding Some number
+  head-fits : (held : Held) (id : List ℕ) (time size : ℕ) (root path : List ℕ) (hs : Heads) → Some held → paperNumber H held (offer id time size root path) ≡ 0 → Fits hs → Fits (then size root path hs)
+  unfolding Some paperNumber
   head-fits empty id time size root path hs s e f = absurd s
   head-fits (head id₀ time₀ size₀ root₀) id time size root path hs s e f =
       consistent-fits size₀ size root₀ root path hs (taken H id₀ time₀ size₀ root₀ id time size root path e .consistent) f
 
   fit : (es fs : List Entry) (held : Held) → Some held → Runs held (es ++ fs) → Fits (heads es)
-  unfolding heads Runs after kept Some Fits
+  unfolding heads Runs paperAfter kept Some Fits
   fit [] fs held s w = tt
   fit (answered (offer id time size root path) zero ∷ es) fs held s w =
       head-fits held id time size root path (heads es) s (w .0) (fit es fs (head id time size root) tt (w .1))
@@ -198,7 +198,7 @@ module _ (H : List ℕ → List ℕ) where
 
   -- the heads accepted after an accepted page
   pub heads-fit : (calls : List Call) (before between rest : List Entry) (place : ℕ) (page path : List ℕ) → run H empty calls ≡ before ++ (answered (ask place page path) 0 ∷ (between ++ rest)) → Fits (heads between)
-  unfolding Runs after
+  unfolding Runs paperAfter
   heads-fit calls before between rest place page path e =
       let w : Runs empty (before ++ (answered (ask place page path) 0 ∷ (between ++ rest))) = rw e at (runs calls empty) in
       let l = later before (answered (ask place page path) 0 ∷ (between ++ rest)) empty w in

@@ -13,7 +13,7 @@ use Rattle.octets.specs.Numbers.{be}
 use Rattle.octets.proofs.Numbers.{be-length}
 use Rattle.auditor.specs.declared.journal.Appended.the-variants.{Refused}
 use Rattle.auditor.specs.Heads.{end, then, joinedHeads}
-use Rattle.auditor.specs.Journal.{mostCount, append, report, journalAfter, appending}
+use Rattle.auditor.specs.Journal.{mostCount, append, appendReport, journalAfter, appending}
 
 -- the bytes of one head
 pub one-head : (size : ℕ) (root path : List ℕ) → joinedHeads (then size root path end) ≡ be 8 size ++ (root ++ (be 2 (length path / 32) ++ path))
@@ -38,9 +38,9 @@ module _ (room used size : ℕ) (root path : List ℕ) where
     path-long l = simp (eq-eqb _ _ root-32, lt-ltb _ _ l)
 
     module _ (few : length path ≤ 32 * mostCount) where
-      pub path-cut : (length path % 32 ≡ 0 → ⊥) → append room used size root path ≡ refused 10
+      pub path-part : (length path % 32 ≡ 0 → ⊥) → append room used size root path ≡ refused 10
       unfolding append
-      path-cut z = simp (eq-eqb _ _ root-32, le-ltb _ _ few, ne-eqb _ _ z)
+      path-part z = simp (eq-eqb _ _ root-32, le-ltb _ _ few, ne-eqb _ _ z)
 
       module _ (whole : length path % 32 ≡ 0) where
         asked : append room used size root path ≡ into (room - used) (joinedHeads (then size root path end))
@@ -54,8 +54,8 @@ module _ (room used size : ℕ) (root path : List ℕ) where
         fits l = let k = head-length size root path root-32 in asked ∙ long (room - used) (joinedHeads (then size root path end)) (omega arith)
 
 -- a refusal says its number, and the buffer keeps its bytes
-pub refused-tells : (used : ℕ) (o : Outcome) (n : ℕ) (b : List ℕ) → o ≡ refused n → (appending (Refused n) ≡ report used o) × (b ≡ journalAfter used o b)
-unfolding report journalAfter
+pub refused-tells : (used : ℕ) (o : Outcome) (n : ℕ) (b : List ℕ) → o ≡ refused n → (appending (Refused n) ≡ appendReport used o) × (b ≡ journalAfter used o b)
+unfolding appendReport journalAfter
 refused-tells used o n b e = rw e (refl, refl)
 
 -- the four pieces of a head, one behind the other

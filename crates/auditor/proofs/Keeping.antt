@@ -22,16 +22,16 @@ use Rattle.octets.specs.Bytes.{put}
 use Rattle.octets.proofs.Numbers.{be-length}
 use Rattle.octets.proofs.Putting.{put-length}
 use Rattle.auditor.specs.declared.Record.{Record}
-use Rattle.auditor.specs.Held.{Held, empty, head, view, none}
+use Rattle.auditor.specs.Held.{Held, empty, head, view, emptyRecord}
 use Rattle.auditor.specs.Offer.{outside, first, byRecord, offerNumber, keptRecord, offered}
 use Rattle.auditor.specs.Page.{pageNumber, asked}
 use Rattle.auditor.specs.Heads.{Heads, end, then, lastSize, lastRoot, joinedHeads, headsOf, howMany}
-use Rattle.auditor.specs.Journal.{mostCount, append, report, journalAfter}
+use Rattle.auditor.specs.Journal.{mostCount, append, appendReport, journalAfter}
 use Rattle.auditor.specs.Calls.{Call, offer, ask, Entry, answered, called, answers, final, heads}
 use Rattle.auditor.specs.Claims.{lastHead}
-use Rattle.auditor.specs.Dispute.{dispute, report as told, pairAfter}
+use Rattle.auditor.specs.Dispute.{dispute, disputeReport, pairDisputed}
 use Rattle.auditor.specs.Demand.{Settles}
-use Rattle.auditor.specs.Keeping.{kept, lost, noted, onward, journaled, Joins, JournalJoins, longestHead, LongEnough, AsKept}
+use Rattle.auditor.specs.Keeping.{kept, lost, noted, ifKept, journaled, Joins, JournalJoins, longestHead, LongEnough, AsKept}
 use Rattle.auditor.proofs.Offering.{passed, taken, view-held, view-empty}
 use Rattle.auditor.proofs.Holding.{held-is-accepted}
 use Rattle.auditor.proofs.Journaling.{one-head, head-length, fits}
@@ -91,9 +91,9 @@ put-parts b w u h =
     (ap (take (u + length w)) e ∙ take-at (take u b ++ w) (drop (u + length w) b) (u + length w) l, ap (drop (u + length w)) e ∙ drop-at (take u b ++ w) (drop (u + length w) b) (u + length w) l)
 
 one-more : (entries : List Entry) (id : List ℕ) (time size : ℕ) (root path lent bytes : List ℕ) (start used : ℕ) (o : Outcome) → append (length lent) start size root path ≡ o →
-    onward (noted (journalAfter start o lent) (report start o)) (journaled entries) ≡ kept bytes used →
+    ifKept (noted (journalAfter start o lent) (appendReport start o)) (journaled entries) ≡ kept bytes used →
     ((l : List ℕ) (s : ℕ) → journaled entries l s ≡ kept bytes used → Joins entries l bytes s used) → Joins (answered (offer id time size root path) 0 ∷ entries) lent bytes start used
-unfolding journalAfter report noted onward heads
+unfolding journalAfter appendReport noted ifKept heads
 one-more entries id time size root path lent bytes start used (refused n) q e i = absurd (no-lost bytes used n e)
 one-more entries id time size root path lent bytes start used (wrote w) q e i =
     let j = i (put lent start w) (start + length w) e in
@@ -139,11 +139,11 @@ record Short (root path : List ℕ) : Type 0 where
 
 few-by : (held : Held) (id : List ℕ) (time size : ℕ) (root path : List ℕ) → offerNumber sha256 held id time size root path ≡ 0 → length path ≤ 32 * (mostNodes + 1)
 unfolding byRecord first
-few-by empty id time size root path e = none (eqb (length path) 0) refl (pass (outside size) 5 _ (passed sha256 empty id time size root path e .by-record) .1)
+few-by empty id time size root path e = by-length (eqb (length path) 0) refl (pass (outside size) 5 _ (passed sha256 empty id time size root path e .by-record) .1)
   where
-    none : (b : Bool) → eqb (length path) 0 ≡ b → _≡_ {A = ℕ} (cond b 0 7) 0 → length path ≤ 32 * (mostNodes + 1)
-    none true f g = let z = eqb-true (length path) 0 f in omega arith
-    none false f g = absurd (omega arith)
+    by-length : (b : Bool) → eqb (length path) 0 ≡ b → _≡_ {A = ℕ} (cond b 0 7) 0 → length path ≤ 32 * (mostNodes + 1)
+    by-length true f g = let z = eqb-true (length path) 0 f in omega arith
+    by-length false f g = absurd (omega arith)
 few-by (head id₀ time₀ size₀ root₀) id time size root path e =
     let c = consistency-accepted sha256 size₀ size root₀ root path (taken sha256 id₀ time₀ size₀ root₀ id time size root path e .consistent) in
     let b = bounds .consistency-largest size₀ size (c .some) (c .order) (c .in-range) in
@@ -160,7 +160,7 @@ goes-on : (entries : List Entry) (id : List ℕ) (time size : ℕ) (root path le
     start + longestHead * howMany (heads (answered (offer id time size root path) number ∷ entries)) ≤ length lent →
     ((l : List ℕ) (s : ℕ) → s + longestHead * howMany (heads entries) ≤ length l → (n : ℕ) → journaled entries l s ≡ lost n → ⊥) →
     (n : ℕ) → journaled (answered (offer id time size root path) number ∷ entries) lent start ≡ lost n → ⊥
-unfolding heads howMany journaled journalAfter report noted onward
+unfolding heads howMany journaled journalAfter appendReport noted ifKept
 goes-on entries id time size root path lent start zero s h i n e =
     let a = s refl in
     let f = a .few in
@@ -203,7 +203,7 @@ agreed r place page path held m s v a e = go (r .held) refl
 abbrev By : List ℕ → ℕ → List ℕ → List ℕ → List ℕ → List ℕ → ℕ → List ℕ → List ℕ → Type 0
 By page₁ place path₁ page₂ path₂ pair size root joined =
     (let d = dispute sha256 page₁ place path₁ size root (headsOf joined) page₂ path₂ (length pair) in
-    Settles page₁ page₂ (told d) (pairAfter d pair))
+    Settles page₁ page₂ (disputeReport d) (pairDisputed d pair))
 
 settles-by : (page₁ : List ℕ) (place : ℕ) (path₁ page₂ path₂ pair : List ℕ) (m n : ℕ) (r s h k : List ℕ) → m ≡ n → r ≡ s → h ≡ k →
     By page₁ place path₁ page₂ path₂ pair n s k → By page₁ place path₁ page₂ path₂ pair m r h
@@ -212,14 +212,14 @@ settles-by page₁ place path₁ page₂ path₂ pair m n r s h k e f g w = rw (
 pub as-kept : AsKept
 unfolding answers called asked Agrees
 as-kept earlier between place page₁ path₁ page₂ path₂ lent bytes used pair a j b enough =
-    let held = final none earlier in
-    let before = answers none earlier in
+    let held = final emptyRecord earlier in
+    let before = answers emptyRecord earlier in
     let since = answers held between in
     let one = answered (ask place page₁ path₁) 0 in
     let two = answered (ask place page₂ path₂) 0 in
     let calls = earlier ++ (ask place page₁ path₁ ∷ (between ++ (ask place page₂ path₂ ∷ []))) in
-    let e : answers none calls ≡ before ++ (one ∷ (since ++ (two ∷ []))) =
-    answers-append none earlier (ask place page₁ path₁ ∷ (between ++ (ask place page₂ path₂ ∷ [])))
+    let e : answers emptyRecord calls ≡ before ++ (one ∷ (since ++ (two ∷ []))) =
+    answers-append emptyRecord earlier (ask place page₁ path₁ ∷ (between ++ (ask place page₂ path₂ ∷ [])))
     ∙ rw (a, answers-append held between (ask place page₂ path₂ ∷ []), b) in
     let g = agreed held place page₁ path₁ (lastHead empty before) (lastSize 0 (heads before)) (lastRoot [] (heads before)) (held-is-accepted earlier) (agrees before empty 0 [] tt) a in
     settles-by page₁ place path₁ page₂ path₂ pair (held .size) (lastSize 0 (heads before)) (held .root) (lastRoot [] (heads before)) (take used bytes) (joinedHeads (heads since))

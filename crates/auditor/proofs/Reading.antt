@@ -9,19 +9,19 @@ use lib.Dec.{eqb}
 use lib.ListN.{length, drop, length-append, length-drop}
 use lib.Seq.{take-at, drop-at, drop-drop}
 use borrow.Author.Tests.{lt-ltb, le-ltb, eq-eqb, ne-eqb}
-use Rattle.octets.specs.Numbers.{be}
-use Rattle.octets.proofs.Numbers.{be-length, unbe-be}
-use Rattle.octets.proofs.Order.{lt-or-ge}
-use Rattle.auditor.specs.Heads.{Heads, end, cut, then, joinedHeads, sizeOf, rootOf, countOf, pathOf, headBytes, headsIn, headsOf}
+use Rattle.item.specs.Layout.{be}
+use Rattle.item.proofs.Digits.{be-length, unbe-be}
+use Rattle.tree.proofs.Splitting.{lt-or-ge}
+use Rattle.auditor.specs.Heads.{Heads, end, truncated, then, joinedHeads, sizeOf, rootOf, countOf, pathOf, headBytes, headsIn, headsOf}
 
 -- the first head is whole, or cut short
 pub bytes-whole : (s : List ℕ) → 42 + 32 * countOf s ≤ length s → headBytes s ≡ 42 + 32 * countOf s
 unfolding headBytes
 bytes-whole s h = rw (le-ltb (length s) 42 (omega arith), le-ltb (length s - 42) (32 * countOf s) (omega arith))
 
-pub bytes-cut : (s : List ℕ) → length s < 42 + 32 * countOf s → headBytes s ≡ 0
+pub bytes-truncated : (s : List ℕ) → length s < 42 + 32 * countOf s → headBytes s ≡ 0
 unfolding headBytes
-bytes-cut s h =
+bytes-truncated s h =
     ⊎-elim (λ l. rw (lt-ltb (length s) 42 l))
     (λ l. rw (le-ltb (length s) 42 l, lt-ltb (length s - 42) (32 * countOf s) (omega arith)))
     (lt-or-ge (length s) 42)
@@ -29,7 +29,7 @@ bytes-cut s h =
 -- a whole head has bytes, and they are there
 pub bytes-there : (s : List ℕ) → (headBytes s ≡ 0 → ⊥) → (headBytes s ≡ 42 + 32 * countOf s) × (42 + 32 * countOf s ≤ length s)
 bytes-there s z =
-    ⊎-elim (λ l. absurd (z (bytes-cut s l))) (λ l. (bytes-whole s l, l)) (lt-or-ge (length s) (42 + 32 * countOf s))
+    ⊎-elim (λ l. absurd (z (bytes-truncated s l))) (λ l. (bytes-whole s l, l)) (lt-or-ge (length s) (42 + 32 * countOf s))
 
 pub bytes-least : (s : List ℕ) → (headBytes s ≡ 0 → ⊥) → (42 ≤ headBytes s) × (headBytes s ≤ length s)
 bytes-least s z = let b = bytes-there s z in (omega arith, omega arith)
@@ -49,7 +49,7 @@ fuel (suc f) (suc g) s h k =
     let e = bytes-least s (λ z. omega arith) in
     ap (λ (hs : Heads).
     cond (eqb (length s) 0) end
-    (cond (eqb (headBytes s) 0) cut
+    (cond (eqb (headBytes s) 0) truncated
     (then (sizeOf s) (rootOf s) (pathOf s) hs)))
     (fuel f g (drop (headBytes s) s) (omega arith) (omega arith)))
     (lt-or-ge (headBytes s) 1)
@@ -61,9 +61,9 @@ heads-end s e = rw e
 opened : (s : List ℕ) → headsOf s ≡ headsIn (suc (length s)) s
 opened s = fuel (length s) (suc (length s)) s (omega arith) (omega arith)
 
-pub heads-cut : (s : List ℕ) → (length s ≡ 0 → ⊥) → headBytes s ≡ 0 → headsOf s ≡ cut
+pub heads-truncated : (s : List ℕ) → (length s ≡ 0 → ⊥) → headBytes s ≡ 0 → headsOf s ≡ truncated
 unfolding headsIn
-heads-cut s z e = opened s ∙ rw (ne-eqb (length s) 0 z, eq-eqb (headBytes s) 0 e)
+heads-truncated s z e = opened s ∙ rw (ne-eqb (length s) 0 z, eq-eqb (headBytes s) 0 e)
 
 pub heads-then : (s : List ℕ) → (headBytes s ≡ 0 → ⊥) → headsOf s ≡ then (sizeOf s) (rootOf s) (pathOf s) (headsOf (drop (headBytes s) s))
 unfolding headsIn
@@ -76,7 +76,7 @@ heads-then s z =
 -- heads that fit their fields, all of them whole
 unfoldable pub Fits : Heads → Type 0
 Fits end = Unit {0}
-Fits cut = ⊥
+Fits truncated = ⊥
 Fits (then size root path hs) = ((size < 256 ^ 8) × (length root ≡ 32) × (length path % 32 ≡ 0) × (length path / 32 < 65536)) × Fits hs
 
 skip : (a b : List ℕ) (i j : ℕ) → length a ≡ i → drop (i + j) (a ++ b) ≡ drop j b
@@ -145,7 +145,7 @@ module _ (size : ℕ) (root path rest : List ℕ) (small : size < 256 ^ 8) (root
 pub read-back : (hs : Heads) → Fits hs → headsOf (joinedHeads hs) ≡ hs
 unfolding joinedHeads Fits
 read-back end f = heads-end [] refl
-read-back cut f = absurd f
+read-back truncated f = absurd f
 read-back (then size root path hs) f =
     let w = f .0 in
     one-back size root path (joinedHeads hs) (w .0) (w .1) (w .2) (w .3) ∙ ap (then size root path) (read-back hs (f .1))

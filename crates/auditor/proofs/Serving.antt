@@ -14,25 +14,24 @@ use Rattle.octets.specs.Limits.{mostItem}
 use Rattle.hash.proofs.Promises.{sha256-length}
 use Rattle.tree.specs.Limits.{largestSize}
 use Rattle.tree.specs.Tree.{leaf, root, path, consistency}
-use Rattle.octets.specs.Bytes.{same}
-use Rattle.tree.specs.Joined.{nodes, joined}
-use Rattle.tree.specs.Verdict.{inclusionVerdict, consistencyVerdict}
-use Rattle.octets.proofs.Sameness.{same-refl, same-of}
-use Rattle.tree.proofs.Joining.{All32, all-take, all-nodes, nodes-joined, joined-append, joined-length}
+use Rattle.tree.specs.Joined.{nodes, joined, same}
+use Rattle.tree.specs.Verdict.{unless, inclusionVerdict, consistencyVerdict}
+use Rattle.tree.proofs.Joining.{All32, all-take, all-nodes, nodes-joined, joined-append, joined-length, same-refl, same-of}
 use Rattle.tree.proofs.Counting.{bounds}
 use Rattle.tree.proofs.Completing.{root-32}
 use Rattle.tree.proofs.Accepting.{inclusion-accepted, consistency-accepted}
+use Rattle.carry.specs.Limits.{pairBytes}
 use Rattle.carry.specs.Forward.{carried, carry}
 use Rattle.carry.specs.Compare.{compare}
 use Rattle.carry.proofs.Comparing.{comparing}
 use Rattle.carry.proofs.Honest.{own-inclusion, own-consistency, own-carried}
-use Rattle.octets.specs.Answer.{Answer}
-use Rattle.auditor.specs.Held.{Held, empty, head, none}
+use Rattle.sha256.specs.Told.{Told}
+use Rattle.auditor.specs.Held.{Held, empty, head, emptyRecord}
 use Rattle.auditor.specs.Offer.{outside, first, against, byRecord, offerNumber, kept}
 use Rattle.auditor.specs.Page.{pageNumber}
 use Rattle.auditor.specs.Heads.{Heads, lastSize, lastRoot, joinedHeads, headsOf}
-use Rattle.auditor.specs.Dispute.{Finding, alike, longestPath, Ruling, report, onward, settled, unless, follow, dispute}
-use Rattle.auditor.specs.Calls.{Call, offer, ask, Entry, answered, answers, number, after, run, heads}
+use Rattle.auditor.specs.Dispute.{Finding, alike, longestPath, Ruling, disputeReport, onward, settled, follow, dispute}
+use Rattle.auditor.specs.Calls.{Call, offer, ask, Entry, answered, answers, paperNumber, paperAfter, run, heads}
 use Rattle.growing.proofs.Calling.{follows-all}
 use Rattle.auditor.specs.Claims.{leaves, Served, HonestLog, GrownHeads}
 use Rattle.auditor.proofs.Offering.{as-earlier}
@@ -79,7 +78,7 @@ module _ {t time m n : ℕ} where
   again (inr k) q = k .1
 
 -- one accepted call, and what follows it
-goes-on : (H : List ℕ → List ℕ) (c : Call) (held held₂ : Held) (calls : List Call) (es : List Entry) → number H held c ≡ 0 → after H held c 0 ≡ held₂ → run H held₂ calls ≡ es → run H held (c ∷ calls) ≡ answered c 0 ∷ es
+goes-on : (H : List ℕ → List ℕ) (c : Call) (held held₂ : Held) (calls : List Call) (es : List Entry) → paperNumber H held c ≡ 0 → paperAfter H held c 0 ≡ held₂ → run H held₂ calls ≡ es → run H held (c ∷ calls) ≡ answered c 0 ∷ es
 unfolding run
 goes-on H c held held₂ calls es e d f = rw (e, d, f)
 
@@ -163,7 +162,7 @@ module _ (id : List ℕ) (pages : List (List ℕ)) (all : length pages ≤ large
         ∙ own-consistency sha256 sha256-length l (all-take n hashes hashes-32) m 0 some (omega arith) (omega arith)
 
     -- the path of a place is carried to its path in the longer list
-    carried-on : (place pair : ℕ) → place < m → 130 ≤ pair →
+    carried-on : (place pair : ℕ) → place < m → pairBytes ≤ pair →
         carry sha256 (sha256 (0 ∷ getD pages place [])) place m n (rootAt m) (rootAt n) (own m place) (since m n) longestPath pair ≡ carried (own n place)
     unfolding rootAt own since
     carried-on place pair h long =
@@ -219,7 +218,7 @@ module _ (id : List ℕ) (pages : List (List ℕ)) (all : length pages ≤ large
 
   module _ (least : 2 ≤ length id) (most : length id ≤ 127) (items : (i : ℕ) → length (getD pages i []) ≤ mostItem) where
     accepts : {m t : ℕ} {calls : List Call} → Served id pages m t calls → m ≤ length pages → run sha256 (heldAt m t) calls ≡ map (λ (c : Call). answered c 0) calls
-    unfolding heldAt rootAt own since number after kept run
+    unfolding heldAt rootAt own since paperNumber paperAfter kept run
     accepts Served.done h = refl
     accepts (Served.first {n = n} {time = time} {calls = calls} some le s) h =
         goes-on sha256 (offer id time n (rootAt n) []) empty (heldAt n time) calls (map (λ (c : Call). answered c 0) calls) (takes-first sha256 id least most time n (rootAt n) (root-at-32 n) some (omega arith)) (sym (held-at n time some)) (accepts s le)
@@ -233,10 +232,10 @@ module _ (id : List ℕ) (pages : List (List ℕ)) (all : length pages ≤ large
     accepts (Served.page {m = m} {t = t} {place = place} {calls = calls} l s) h =
         let item = getD pages place [] in
         goes-on sha256 (ask place item (own m place)) (heldAt m t) (heldAt m t) calls (map (λ (c : Call). answered c 0) calls)
-        (ap (λ (held : Held). number sha256 held (ask place item (own m place))) (held-at m t (omega arith)) ∙ takes-page sha256 id t m (rootAt m) place item (own m place) (items place) (own-accepted m h place l)) refl (accepts s h)
+        (ap (λ (held : Held). paperNumber sha256 held (ask place item (own m place))) (held-at m t (omega arith)) ∙ takes-page sha256 id t m (rootAt m) place item (own m place) (items place) (own-accepted m h place l)) refl (accepts s h)
 
     -- two proofs of the log's own page under one head
-    own-settled : (m place pair : ℕ) → place < m → m ≤ length pages → 130 ≤ pair →
+    own-settled : (m place pair : ℕ) → place < m → m ≤ length pages → pairBytes ≤ pair →
         (let item = getD pages place [] in
         settled item item (compare sha256 place m (rootAt m) (sha256 (0 ∷ item)) (own m place) (sha256 (0 ∷ item)) (own m place) pair) ≡ alike)
     unfolding settled
@@ -247,7 +246,7 @@ module _ (id : List ℕ) (pages : List (List ℕ)) (all : length pages ≤ large
         rw (comparing sha256 sha256-length .compares place m (rootAt m) h₁ (own m place) h₁ (own m place) pair .same v v l .1 (refl, refl), same-refl item)
 
     -- over the heads that an honest log served since
-    follows : (es fs : List Entry) (m place pair : ℕ) (item w : List ℕ) → place < m → m ≤ length pages → 130 ≤ pair → Good m (es ++ (answered (ask place item w) 0 ∷ fs)) →
+    follows : (es fs : List Entry) (m place pair : ℕ) (item w : List ℕ) → place < m → m ≤ length pages → pairBytes ≤ pair → Good m (es ++ (answered (ask place item w) 0 ∷ fs)) →
         follow sha256 place (getD pages place []) item w pair (heads es) m (rootAt m) (own m place) ≡ alike
     unfolding Good NewHead OwnPage heads follow onward
     follows [] fs m place pair item w h le l g = rw (g .0 .0, g .0 .2) (own-settled m place pair h le l)
@@ -258,7 +257,7 @@ module _ (id : List ℕ) (pages : List (List ℕ)) (all : length pages ≤ large
     follows (answered (ask x other q) zero ∷ es) fs m place pair item w h le l g = follows es fs m place pair item w h le l (g .1)
     follows (answered (ask x other q) (suc j) ∷ es) fs m place pair item w h le l g = absurd g
 
-    disputed : (m place pair : ℕ) (r item₁ w₁ item₂ w₂ : List ℕ) (es fs : List Entry) (hs : Heads) → m ≤ length pages → (0 < m → r ≡ rootAt m) → 130 ≤ pair → hs ≡ heads es →
+    disputed : (m place pair : ℕ) (r item₁ w₁ item₂ w₂ : List ℕ) (es fs : List Entry) (hs : Heads) → m ≤ length pages → (0 < m → r ≡ rootAt m) → pairBytes ≤ pair → hs ≡ heads es →
         Good m (answered (ask place item₁ w₁) 0 ∷ (es ++ (answered (ask place item₂ w₂) 0 ∷ fs))) → dispute sha256 item₁ place w₁ m r hs item₂ w₂ pair ≡ alike
     unfolding dispute unless Good OwnPage
     disputed m place pair r item₁ w₁ item₂ w₂ es fs hs le k l e g =
@@ -270,8 +269,8 @@ module _ (id : List ℕ) (pages : List (List ℕ)) (all : length pages ≤ large
         rw (p .0, p .2, root, e, le-ltb mostItem (length item) (items place), le-ltb mostItem (length item₂) i, own-accepted m le place (p .1))
         (follows es fs m place pair item₂ w₂ (p .1) le l (g .1))
 
-said : (f : Finding) → f ≡ alike → report f ≡ Answer.done Ruling.samePage
-unfolding report
+said : (f : Finding) → f ≡ alike → disputeReport f ≡ Told.done Ruling.samePage
+unfolding disputeReport
 said f e = rw e
 
 pub honest-log : HonestLog
@@ -289,7 +288,7 @@ honest-log id pages calls least most all items s =
           (disputed id pages all least most items (lastSize 0 (heads before)) place (length pair) (lastRoot [] (heads before)) page₁ path₁ page₂ path₂ between rest (headsOf (joinedHeads (heads between))) (k .0) (k .1) l back (k .2));
     }
   where
-    accepted₀ : answers none calls ≡ map (λ (c : Call). answered c 0) calls
+    accepted₀ : answers emptyRecord calls ≡ map (λ (c : Call). answered c 0) calls
     accepted₀ = same-answers calls ∙ accepts id pages all least most items s (omega arith)
 
 pub grown-heads : GrownHeads

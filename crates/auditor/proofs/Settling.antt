@@ -14,25 +14,28 @@ use Rattle.octets.specs.Limits.{mostItem}
 use Rattle.hash.proofs.Promises.{sha256-length}
 use Rattle.octets.specs.Bytes.{same, over}
 use Rattle.tree.specs.Count.{inclusionCount}
-use Rattle.tree.specs.Verdict.{inclusionVerdict, consistencyVerdict}
-use Rattle.octets.proofs.Sameness.{same-true, same-refl}
+use Rattle.tree.specs.Collision.{Collision}
+use Rattle.tree.specs.Verdict.{unless, inclusionVerdict, consistencyVerdict}
+use Rattle.tree.proofs.Joining.{same-true, same-refl}
 use Rattle.tree.proofs.Counting.{bounds}
 use Rattle.tree.proofs.Accepting.{inclusion-accepted, consistency-accepted}
+use Rattle.carry.specs.Limits.{pairBytes}
 use Rattle.carry.specs.Strings.{Collides}
 use Rattle.carry.specs.Forward.{Forward, carry}
 use Rattle.carry.specs.Compare.{Comparison, compare}
-use Rattle.carry.proofs.Comparing.{opened, is-equal, comparing}
+use Rattle.carry.proofs.Refusing.{opened}
+use Rattle.carry.proofs.Comparing.{is-equal, comparing}
 use Rattle.carry.proofs.Refusing.{passed}
 use Rattle.carry.proofs.Carrying.{carrying}
-use Rattle.octets.specs.Answer.{Answer}
-use Rattle.auditor.specs.Held.{Held, empty, head, none}
-use Rattle.auditor.specs.Heads.{Heads, end, cut, then, lastSize, lastRoot, joinedHeads, headsOf}
-use Rattle.auditor.specs.Dispute.{Finding, refused, alike, nodes, pages, onward, settled, longestPath, follow, dispute, unless, report, pairAfter}
-use Rattle.auditor.specs.Calls.{Call, offer, ask, Entry, answered, number, after, run, answers, heads}
+use Rattle.sha256.specs.Told.{Told}
+use Rattle.auditor.specs.Held.{Held, empty, head, emptyRecord}
+use Rattle.auditor.specs.Heads.{Heads, end, truncated, then, lastSize, lastRoot, joinedHeads, headsOf}
+use Rattle.auditor.specs.Dispute.{Finding, refused, alike, nodes, pages, onward, settled, longestPath, follow, dispute, disputeReport, pairDisputed}
+use Rattle.auditor.specs.Calls.{Call, offer, ask, Entry, answered, paperNumber, paperAfter, run, answers, heads}
 use Rattle.auditor.specs.Offer.{kept}
 use Rattle.auditor.specs.Page.{pageNumber}
 use Rattle.auditor.specs.Claims.{lastHead}
-use Rattle.auditor.specs.Demand.{Collision, Tells, Settles, WhateverGiven, Demand3, TwoAuditors}
+use Rattle.auditor.specs.Demand.{Sound, Settles, WhateverGiven, Demand3, TwoAuditors}
 use Rattle.auditor.proofs.Offering.{taken}
 use Rattle.auditor.proofs.Reading.{Fits, read-back}
 use Rattle.auditor.proofs.Disputing.{followed}
@@ -62,24 +65,24 @@ module _ (H : List ℕ → List ℕ) where
   -- heads that the verdict accepts one after another, from a size and a root
   unfoldable pub Chain : Heads → ℕ → List ℕ → Type 0
   Chain end m r = Unit {0}
-  Chain cut m r = ⊥
+  Chain truncated m r = ⊥
   Chain (then n s q hs) m r = (consistencyVerdict H m n r s q ≡ 0) × Chain hs n s
 
   -- an accepted page, under the head held
-  page-shown : (held : Held) (m : ℕ) (r : List ℕ) (place : ℕ) (page path : List ℕ) → Agrees held m r → number H held (ask place page path) ≡ 0 → (length page ≤ mostItem) × (inclusionVerdict H (H (0 ∷ page)) place m r path ≡ 0)
-  unfolding Agrees number pageNumber
+  page-shown : (held : Held) (m : ℕ) (r : List ℕ) (place : ℕ) (page path : List ℕ) → Agrees held m r → paperNumber H held (ask place page path) ≡ 0 → (length page ≤ mostItem) × (inclusionVerdict H (H (0 ∷ page)) place m r path ≡ 0)
+  unfolding Agrees paperNumber pageNumber
   page-shown empty m r place page path a e = absurd (omega arith)
   page-shown (head id time size root) m r place page path a e = rw (a .0, a .1) at (shown H id time size root place page path e)
 
   -- an accepted head, over a record that holds one
-  head-shown : (held : Held) (m : ℕ) (r id : List ℕ) (time size : ℕ) (root path : List ℕ) → Some H held → Agrees held m r → number H held (offer id time size root path) ≡ 0 → consistencyVerdict H m size r root path ≡ 0
-  unfolding Agrees Some number
+  head-shown : (held : Held) (m : ℕ) (r id : List ℕ) (time size : ℕ) (root path : List ℕ) → Some H held → Agrees held m r → paperNumber H held (offer id time size root path) ≡ 0 → consistencyVerdict H m size r root path ≡ 0
+  unfolding Agrees Some paperNumber
   head-shown empty m r id time size root path s a e = absurd s
   head-shown (head id₀ time₀ size₀ root₀) m r id time size root path s a e = rw (a .0, a .1) at (taken H id₀ time₀ size₀ root₀ id time size root path e .consistent)
 
   -- the heads accepted since a head are such a chain
   chain : (es fs : List Entry) (held : Held) (m : ℕ) (r : List ℕ) → Some H held → Agrees held m r → Runs H held (es ++ fs) → Chain (heads es) m r
-  unfolding heads Runs after kept Chain Some Agrees
+  unfolding heads Runs paperAfter kept Chain Some Agrees
   chain [] fs held m r s a w = tt
   chain (answered (offer id time size root path) zero ∷ es) fs held m r s a w =
       (head-shown held m r id time size root path s a (w .0), chain es fs (head id time size root) size root tt (refl, refl) (w .1))
@@ -90,10 +93,10 @@ module _ (H : List ℕ → List ℕ) where
   same-leaves : ((s : List ℕ) → length (H s) ≡ 32) → (place m : ℕ) (r leaf₁ p leaf₂ q : List ℕ) (pair : ℕ) → compare H place m r leaf₁ p leaf₂ q pair ≡ Comparison.equal → leaf₁ ≡ leaf₂
   unfolding compare
   same-leaves H32 place m r leaf₁ p leaf₂ q pair e =
-      let a = opened _ _ _ e is-equal in
-      let b = opened _ _ _ (a .1) is-equal in
-      let c = passed Comparison.refused Comparison.equal is-equal (ltb pair 130) 9 _ (b .1) in
-      comparing H H32 .compares place m r leaf₁ p leaf₂ q pair .same (a .0) (b .0) (ltb-false pair 130 (c .0)) .0 e .0
+      let a = opened Comparison.refused _ _ _ e is-equal in
+      let b = opened Comparison.refused _ _ _ (a .1) is-equal in
+      let c = passed Comparison.refused Comparison.equal is-equal (ltb pair pairBytes) 9 _ (b .1) in
+      comparing H H32 .compares place m r leaf₁ p leaf₂ q pair .same (a .0) (b .0) (ltb-false pair pairBytes (c .0)) .0 e .0
 
   module _ (H32 : (s : List ℕ) → length (H s) ≡ 32) (place : ℕ) (page₁ page₂ path₂ : List ℕ) (pair : ℕ) where
     owed-settled : (f : Comparison) → (f ≡ Comparison.equal → H (0 ∷ page₁) ≡ H (0 ∷ page₂)) → ((s t : List ℕ) → f ≡ Comparison.collision s t → Collides H s t) → Owed page₁ page₂ (settled page₁ page₂ f)
@@ -103,7 +106,7 @@ module _ (H : List ℕ → List ℕ) where
       where
         go : (b : Bool) → same page₁ page₂ ≡ b → Owed page₁ page₂ (cond b alike pages)
         go true t = same-true page₁ page₂ t
-        go false t = record { different = λ z. false≢true (sym t ∙ ap (λ (x : List ℕ). same x page₂) (ap (drop 1) z) ∙ same-refl page₂); one-value = e refl }
+        go false t = record { different = λ z. false≢true (sym t ∙ ap (λ (x : List ℕ). same x page₂) (ap (drop 1) z) ∙ same-refl page₂); one-hash = e refl }
     owed-settled (Comparison.collision s t) e w = w s t refl
 
     owed-onward : (f : Forward) (go : List ℕ → Finding) → ((s t : List ℕ) → f ≡ Forward.collision s t → Collides H s t) → ((p : List ℕ) → Owed page₁ page₂ (go p)) → Owed page₁ page₂ (onward f go)
@@ -119,13 +122,13 @@ module _ (H : List ℕ → List ℕ) where
         let c = comparing H H32 .compares place m r (H (0 ∷ page₁)) p (H (0 ∷ page₂)) path₂ pair in
         owed-settled (compare H place m r (H (0 ∷ page₁)) p (H (0 ∷ page₂)) path₂ pair)
         (same-leaves H32 place m r (H (0 ∷ page₁)) p (H (0 ∷ page₂)) path₂ pair) (c .collides)
-    owed cut m r p = tt
+    owed truncated m r p = tt
     owed (then n s q hs) m r p =
         owed-onward (carry H (H (0 ∷ page₁)) place m n r s p q longestPath pair) (follow H place page₁ page₂ path₂ pair hs n s)
         (carrying H H32 .carries (H (0 ∷ page₁)) place m n r s p q longestPath pair .collides) (owed hs n s)
 
     -- from an accepted proof over a chain of heads to one accepted under the last of them, nothing is refused
-    module _ (long : 130 ≤ pair) where
+    module _ (long : pairBytes ≤ pair) where
       settled-none : (f : Comparison) → ((n : ℕ) → f ≡ Comparison.refused n → ⊥) → (n : ℕ) → settled page₁ page₂ f ≡ refused n → ⊥
       unfolding settled
       settled-none (Comparison.refused k) z n e = z k refl
@@ -149,7 +152,7 @@ module _ (H : List ℕ → List ℕ) where
           settled-none (compare H place m r (H (0 ∷ page₁)) p (H (0 ∷ page₂)) path₂ pair)
           (λ k e. ⊎-elim (λ f. let y : _≡_ {A = ℕ} 0 1 = cc in omega arith) (λ f. let g = f .1 .1 in let y : _≡_ {A = ℕ} 0 1 = cc in omega arith)
           (comparing H H32 .compares place m r (H (0 ∷ page₁)) p (H (0 ∷ page₂)) path₂ pair .settles a b long))
-      none-refused cut m r p c a b = absurd c
+      none-refused truncated m r p c a b = absurd c
       none-refused (then n s q hs) m r p c a b =
           let w = carrying H H32 .carries (H (0 ∷ page₁)) place m n r s p q longestPath pair in
           onward-none (carry H (H (0 ∷ page₁)) place m n r s p q longestPath pair) (follow H place page₁ page₂ path₂ pair hs n s)
@@ -183,7 +186,7 @@ module _ (H : List ℕ → List ℕ) where
     module _ (place : ℕ) (page₁ path₁ : List ℕ) (m : ℕ) (r : List ℕ) (hs : Heads) (page₂ path₂ : List ℕ) (pair : ℕ) where
       pub not-refused :
           Chain hs m r → (length page₁ ≤ mostItem) × (inclusionVerdict H (H (0 ∷ page₁)) place m r path₁ ≡ 0) →
-          (length page₂ ≤ mostItem) × (inclusionVerdict H (H (0 ∷ page₂)) place (lastSize m hs) (lastRoot r hs) path₂ ≡ 0) → 130 ≤ pair →
+          (length page₂ ≤ mostItem) × (inclusionVerdict H (H (0 ∷ page₂)) place (lastSize m hs) (lastRoot r hs) path₂ ≡ 0) → pairBytes ≤ pair →
           (n : ℕ) → dispute H page₁ place path₁ m r hs page₂ path₂ pair ≡ refused n → ⊥
       not-refused c a b long n e =
           none-refused H32 place page₁ page₂ path₂ pair long hs m r path₁ c (a .1) (b .1) n
@@ -192,7 +195,7 @@ module _ (H : List ℕ → List ℕ) where
     -- a page accepted in a run, under the last head accepted before it
     at-page : (calls : List Call) (before rest : List Entry) (place : ℕ) (page path : List ℕ) → run H empty calls ≡ before ++ (answered (ask place page path) 0 ∷ rest) →
         Some H (lastHead empty before) × Runs H (lastHead empty before) rest × ((length page ≤ mostItem) × (inclusionVerdict H (H (0 ∷ page)) place (lastSize 0 (heads before)) (lastRoot [] (heads before)) path ≡ 0))
-    unfolding Runs after Agrees
+    unfolding Runs paperAfter Agrees
     at-page calls before rest place page path e =
         let w : Runs H empty (before ++ (answered (ask place page path) 0 ∷ rest)) = rw e at (runs H calls empty) in
         let l = later H before (answered (ask place page path) 0 ∷ rest) empty w in (
@@ -204,9 +207,9 @@ module _ (H : List ℕ → List ℕ) where
     -- over every list of calls
     pub demand :
         (calls : List Call) (before between rest : List Entry) (place : ℕ) (page₁ path₁ page₂ path₂ : List ℕ) (pair : ℕ) →
-        run H empty calls ≡ before ++ (answered (ask place page₁ path₁) 0 ∷ (between ++ (answered (ask place page₂ path₂) 0 ∷ rest))) → 130 ≤ pair →
+        run H empty calls ≡ before ++ (answered (ask place page₁ path₁) 0 ∷ (between ++ (answered (ask place page₂ path₂) 0 ∷ rest))) → pairBytes ≤ pair →
         (n : ℕ) → dispute H page₁ place path₁ (lastSize 0 (heads before)) (lastRoot [] (heads before)) (heads between) page₂ path₂ pair ≡ refused n → ⊥
-    unfolding Runs after Agrees
+    unfolding Runs paperAfter Agrees
     demand calls before between rest place page₁ path₁ page₂ path₂ pair e long =
         let m = lastSize 0 (heads before) in
         let r = lastRoot [] (heads before) in
@@ -222,8 +225,8 @@ module _ (H : List ℕ → List ℕ) where
 -- ---- in the code's terms
 
 -- the strings are the start of the pair buffer
-tells : (page₁ page₂ : List ℕ) (d : Finding) (pair : List ℕ) → Owed sha256 page₁ page₂ d → Tells page₁ page₂ (report d) (pairAfter d pair)
-unfolding Owed Tells report pairAfter over
+tells : (page₁ page₂ : List ℕ) (d : Finding) (pair : List ℕ) → Owed sha256 page₁ page₂ d → Sound page₁ page₂ (disputeReport d) (pairDisputed d pair)
+unfolding Owed Sound disputeReport pairDisputed over
 tells page₁ page₂ (refused n) pair w = tt
 tells page₁ page₂ alike pair w = w
 tells page₁ page₂ (nodes s t) pair w =
@@ -231,11 +234,11 @@ tells page₁ page₂ (nodes s t) pair w =
     let g : (s ++ t) ++ z ≡ s ++ (t ++ z) = append-assoc s t z in
     let a : take 65 ((s ++ t) ++ z) ≡ s = ap (take 65) g ∙ take-at s (t ++ z) 65 (w .first-65) in
     let b : take 65 (drop 65 ((s ++ t) ++ z)) ≡ t = ap (λ (x : List ℕ). take 65 (drop 65 x)) g ∙ ap (take 65) (drop-at s (t ++ z) 65 (w .first-65)) ∙ take-at t z 65 (w .second-65) in
-    rw (a, b) (record { different = w .different; one-value = w .one-hash })
+    rw (a, b) (w .collision)
 tells page₁ page₂ pages pair w = w
 
-report-refused : (d : Finding) (n : ℕ) → report d ≡ Answer.refused n → d ≡ refused n
-unfolding report
+report-refused : (d : Finding) (n : ℕ) → disputeReport d ≡ Told.refused n → d ≡ refused n
+unfolding disputeReport
 report-refused (refused k) n e = let f : k ≡ n = cc in ap refused f
 report-refused alike n e = absurd (let y : _≡_ {A = ℕ} 0 1 = cc in omega arith)
 report-refused (nodes s t) n e = absurd (let y : _≡_ {A = ℕ} 0 1 = cc in omega arith)
@@ -247,11 +250,11 @@ whatever-given page₁ place path₁ size root between page₂ path₂ pair =
 
 settles : (page₁ : List ℕ) (place : ℕ) (path₁ : List ℕ) (size : ℕ) (root : List ℕ) (hs : Heads) (page₂ path₂ pair : List ℕ) → Fits hs →
     ((n : ℕ) → dispute sha256 page₁ place path₁ size root hs page₂ path₂ (length pair) ≡ refused n → ⊥) →
-    (let d = dispute sha256 page₁ place path₁ size root (headsOf (joinedHeads hs)) page₂ path₂ (length pair) in Settles page₁ page₂ (report d) (pairAfter d pair))
+    (let d = dispute sha256 page₁ place path₁ size root (headsOf (joinedHeads hs)) page₂ path₂ (length pair) in Settles page₁ page₂ (disputeReport d) (pairDisputed d pair))
 unfolding Settles
-settles page₁ place path₁ size root hs page₂ path₂ pair fit none =
+settles page₁ place path₁ size root hs page₂ path₂ pair fit passed =
     rw (read-back hs fit)
-    (tells page₁ page₂ _ pair (whatever sha256 sha256-length page₁ place path₁ size root hs page₂ path₂ (length pair)), λ n e. none n (report-refused _ n e))
+    (tells page₁ page₂ _ pair (whatever sha256 sha256-length page₁ place path₁ size root hs page₂ path₂ (length pair)), λ n e. passed n (report-refused _ n e))
 
 pub demand3 : Demand3
 demand3 calls before between rest place page₁ path₁ page₂ path₂ pair e long =
@@ -262,14 +265,14 @@ demand3 calls before between rest place page₁ path₁ page₂ path₂ pair e l
 
 -- from the page of one auditor to the page of another
 one-way : (calls₁ calls₂ : List Call) (before₁ rest₁ before₂ rest₂ : List Entry) (place : ℕ) (page₁ path₁ page₂ path₂ proof pair : List ℕ) →
-    answers none calls₁ ≡ before₁ ++ (answered (ask place page₁ path₁) 0 ∷ rest₁) → answers none calls₂ ≡ before₂ ++ (answered (ask place page₂ path₂) 0 ∷ rest₂) →
+    answers emptyRecord calls₁ ≡ before₁ ++ (answered (ask place page₁ path₁) 0 ∷ rest₁) → answers emptyRecord calls₂ ≡ before₂ ++ (answered (ask place page₂ path₂) 0 ∷ rest₂) →
     (let m = lastSize 0 (heads before₁) in
     let r = lastRoot [] (heads before₁) in
     let n = lastSize 0 (heads before₂) in
     let s = lastRoot [] (heads before₂) in
-    130 ≤ length pair → consistencyVerdict sha256 m n r s proof ≡ 0 →
+    pairBytes ≤ length pair → consistencyVerdict sha256 m n r s proof ≡ 0 →
     (let d = dispute sha256 page₁ place path₁ m r (headsOf (joinedHeads (then n s proof end))) page₂ path₂ (length pair) in
-    Settles page₁ page₂ (report d) (pairAfter d pair)))
+    Settles page₁ page₂ (disputeReport d) (pairDisputed d pair)))
 unfolding Chain lastSize lastRoot Fits
 one-way calls₁ calls₂ before₁ rest₁ before₂ rest₂ place page₁ path₁ page₂ path₂ proof pair e₁ e₂ long c =
     let m = lastSize 0 (heads before₁) in

@@ -13,9 +13,9 @@ use Rattle.octets.specs.Bytes.{same}
 use Rattle.tree.specs.Verdict.{consistencyVerdict}
 use Rattle.tree.proofs.Answering.{count-7, sizes-in}
 use Rattle.tree.proofs.Accepting.{pass, consistency-accepted, equal}
-use Rattle.auditor.specs.Held.{Held, empty, head, none}
+use Rattle.auditor.specs.Held.{Held, empty, head, emptyRecord}
 use Rattle.auditor.specs.Offer.{outside, first, stale, against, byRecord, kept, offered}
-use Rattle.auditor.specs.Calls.{offer, ask, Entry, answered, called, answers, number, after}
+use Rattle.auditor.specs.Calls.{offer, ask, Entry, answered, called, answers, paperNumber, paperAfter}
 use Rattle.auditor.specs.Claims.{lastHead}
 use Rattle.auditor.specs.Timestamps.{HeldAgain, byTime, older, OnlyStricter}
 use Rattle.auditor.proofs.Offering.{or-false, passed, as-earlier, another, by-tests}
@@ -71,7 +71,7 @@ module _ (H : List ℕ → List ℕ) where
       (omega (arith, c .some, c .order), c .in-range)
 
   proper : (es : List Entry) (held : Held) → Runs H held es → Proper held → Proper (lastHead held es)
-  unfolding Proper Runs number after kept lastHead
+  unfolding Proper Runs paperNumber paperAfter kept lastHead
   proper [] held w p = p
   proper (answered (offer id time size root path) zero ∷ es) held w p =
       let q = passed H held id time size root path (w .0) in
@@ -83,9 +83,9 @@ module _ (H : List ℕ → List ℕ) where
 pub held-again : HeldAgain
 unfolding called offered Proper
 held-again calls id time again size root path v le whole =
-    let e : lastHead empty (answers none calls) ≡ head id time size root = sym (held-is-accepted calls) ∙ v in
-    let w : Runs sha256 empty (answers none calls) = rw (sym (same-answers calls)) at (runs sha256 calls empty) in
-    let p : Proper (head id time size root) = rw e at (proper sha256 (answers none calls) empty w tt) in
+    let e : lastHead empty (answers emptyRecord calls) ≡ head id time size root = sym (held-is-accepted calls) ∙ v in
+    let w : Runs sha256 empty (answers emptyRecord calls) = rw (sym (same-answers calls)) at (runs sha256 calls empty) in
+    let p : Proper (head id time size root) = rw e at (proper sha256 (answers emptyRecord calls) empty w tt) in
     rw v
     (takes-later sha256 id (p .0) (p .1) again size root (p .2) (p .3) (p .4) time size root path whole (omega arith) le (λ q. (refl, refl)) (λ q. refl)
     ∙ one-size sha256 size root path (p .3) (p .4) (p .2) whole)

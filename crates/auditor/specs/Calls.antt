@@ -33,18 +33,18 @@ final r (c ∷ calls) = final (called r c .after) calls
 
 -- the same in the paper's terms, over any hash H
 module _ (H : List ℕ → List ℕ) where
-  unfoldable pub number : Held → Call → ℕ
-  number held (offer id time size root path) = offerNumber H held id time size root path
-  number held (ask place page path) = pageNumber H held place page path
+  unfoldable pub paperNumber : Held → Call → ℕ
+  paperNumber held (offer id time size root path) = offerNumber H held id time size root path
+  paperNumber held (ask place page path) = pageNumber H held place page path
 
   -- the record after a call that answered a number
-  unfoldable pub after : Held → Call → ℕ → Held
-  after held (offer id time size root path) n = kept held id time size root n
-  after held (ask place page path) n = held
+  unfoldable pub paperAfter : Held → Call → ℕ → Held
+  paperAfter held (offer id time size root path) n = kept held id time size root n
+  paperAfter held (ask place page path) n = held
 
   unfoldable pub run : Held → List Call → List Entry
   run held [] = []
-  run held (c ∷ calls) = answered c (number held c) ∷ run (after held c (number held c)) calls
+  run held (c ∷ calls) = answered c (paperNumber held c) ∷ run (paperAfter held c (paperNumber held c)) calls
 
 -- the call of an entry
 unfoldable pub callOf : Entry → Call

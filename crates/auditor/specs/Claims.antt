@@ -13,10 +13,11 @@ use Rattle.growing.specs.Hashes.{fresh, rootNow}
 use Rattle.growing.specs.Calls as growing
 use Rattle.octets.specs.Answer.{Answer}
 use Rattle.auditor.specs.declared.Record.{Record}
-use Rattle.auditor.specs.Held.{Held, empty, head, view, none}
+use Rattle.auditor.specs.Held.{Held, empty, head, view, emptyRecord}
 use Rattle.auditor.specs.Heads.{lastSize, lastRoot, joinedHeads, headsOf}
-use Rattle.auditor.specs.Dispute.{Ruling, dispute, report}
+use Rattle.auditor.specs.Dispute.{Ruling, dispute, disputeReport}
 use Rattle.auditor.specs.Calls.{Call, offer, ask, Entry, answered, answers, final, callOf, accepted, heads}
+use Rattle.carry.specs.Limits.{pairBytes}
 
 -- the head of the last accepted offer
 unfoldable pub lastHead : Held → List Entry → Held
@@ -27,7 +28,7 @@ lastHead held (answered (ask place page path) n ∷ entries) = lastHead held ent
 
 -- whatever the record holds was accepted, and last
 abbrev pub HeldIsAccepted : Type 0
-HeldIsAccepted = (calls : List Call) → view (final none calls) ≡ lastHead empty (answers none calls)
+HeldIsAccepted = (calls : List Call) → view (final emptyRecord calls) ≡ lastHead empty (answers emptyRecord calls)
 
 -- Refused calls add nothing, from any record: left out of the list, the calls that are left answer as they did, and the last record is the same.
 abbrev pub RefusedAddNothing : Type 0
@@ -41,7 +42,8 @@ RefusedAddNothing =
 abbrev pub NeverBack : Type 0
 NeverBack =
     (calls : List Call) (before between rest : List Entry) (id₁ id₂ : List ℕ) (time₁ time₂ size₁ size₂ : ℕ) (root₁ root₂ path₁ path₂ : List ℕ) →
-    answers none calls ≡ before ++ (answered (offer id₁ time₁ size₁ root₁ path₁) 0 ∷ (between ++ (answered (offer id₂ time₂ size₂ root₂ path₂) 0 ∷ rest))) →
+    answers emptyRecord calls
+    ≡ before ++ (answered (offer id₁ time₁ size₁ root₁ path₁) 0 ∷ (between ++ (answered (offer id₂ time₂ size₂ root₂ path₂) 0 ∷ rest))) →
     (id₁ ≡ id₂) × (size₁ ≤ size₂) × (size₁ ≡ size₂ → root₁ ≡ root₂) × ((time₁ < time₂) ⊎ (head id₁ time₁ size₁ root₁ ≡ head id₂ time₂ size₂ root₂))
 
 -- An honest log: its id, and its pages in order.
@@ -64,11 +66,15 @@ module _ (id : List ℕ) (pages : List (List ℕ)) where
 
 -- every head and every page of an honest log is accepted, and a dispute about two of its pages says that they are the same
 pub record HonestFor (id : List ℕ) (pages : List (List ℕ)) (calls : List Call) : Type 0 where
-  pub accepted : answers none calls ≡ map (λ (c : Call). answered c 0) calls
+  pub accepted : answers emptyRecord calls ≡ map (λ (c : Call). answered c 0) calls
   pub same :
       (before between rest : List Entry) (place : ℕ) (page₁ path₁ page₂ path₂ pair : List ℕ) →
-      answers none calls ≡ before ++ (answered (ask place page₁ path₁) 0 ∷ (between ++ (answered (ask place page₂ path₂) 0 ∷ rest))) → 130 ≤ length pair →
-      report (dispute sha256 page₁ place path₁ (lastSize 0 (heads before)) (lastRoot [] (heads before)) (headsOf (joinedHeads (heads between))) page₂ path₂ (length pair)) ≡ Answer.done Ruling.samePage
+      answers emptyRecord calls ≡ before ++ (answered (ask place page₁ path₁) 0 ∷ (between ++ (answered (ask place page₂ path₂) 0 ∷ rest))) →
+      pairBytes ≤ length pair →
+      (let m = lastSize 0 (heads before) in
+      let r = lastRoot [] (heads before) in
+      let d = dispute sha256 page₁ place path₁ m r (headsOf (joinedHeads (heads between))) page₂ path₂ (length pair) in
+      disputeReport d ≡ Told.done Ruling.samePage)
 
 abbrev pub HonestLog : Type 0
 HonestLog =
@@ -79,6 +85,6 @@ HonestLog =
 abbrev pub GrownHeads : Type 0
 GrownHeads =
     (id : List ℕ) (pages : List (List ℕ)) (calls : List growing.Call) (n : ℕ) → length pages ≤ largestSize → n ≤ length pages →
-    growing.taken sha256 fresh calls ≡ take n (map (leaf sha256) pages) →
-    (let g = growing.final sha256 fresh calls in
+    growing.leavesTaken sha256 fresh calls ≡ take n (map (leaf sha256) pages) →
+    (let g = growing.treeAfter sha256 fresh calls in
     (g .count ≡ n) × (rootNow sha256 g ≡ root sha256 (nodes (leaves id pages n))))

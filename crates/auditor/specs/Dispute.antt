@@ -4,18 +4,19 @@ use mathlib.Core.Path.{_≡_}
 use mathlib.Core.Bool.{cond}
 use mathlib.Core.List.{List, _∷_, _++_}
 use Prim.Native.Nat.{ℕ, _*_}
-use lib.Dec.{ltb, eqb}
+use lib.Dec.{ltb}
 use lib.ListN.{length, take, drop}
 use Rattle.octets.specs.Limits.{mostItem}
 use Rattle.tree.specs.Limits.{mostNodes}
-use Rattle.octets.specs.Bytes.{over, same}
-use Rattle.tree.specs.Verdict.{inclusionVerdict}
+use Rattle.tree.specs.Build.{over}
+use Rattle.tree.specs.Joined.{same}
+use Rattle.tree.specs.Verdict.{unless, inclusionVerdict}
 use Rattle.carry.specs.Forward.{Forward, carry}
 use Rattle.carry.specs.Compare.{Comparison, compare}
 use Rattle.octets.specs.Answer.{Answer, done}
 use Rattle.auditor.specs.declared.dispute.Settled.{Settled}
 use Rattle.auditor.specs.declared.dispute.Settled.the-variants.{Same, Nodes, Pages, Refused}
-use Rattle.auditor.specs.Heads.{Heads, end, cut, then}
+use Rattle.auditor.specs.Heads.{Heads, end, truncated, then}
 
 -- the bytes of the longest inclusion path
 abbrev pub longestPath : ℕ
@@ -35,11 +36,11 @@ pub data Ruling : Type 0 where
   ofPages : Ruling
 
 -- what it tells
-unfoldable pub report : Finding → Answer Ruling
-report (refused n) = Answer.refused n
-report alike = done samePage
-report (nodes s t) = done ofNodes
-report pages = done ofPages
+unfoldable pub disputeReport : Finding → Told Ruling
+disputeReport (refused n) = Told.refused n
+disputeReport alike = done samePage
+disputeReport (nodes s t) = done ofNodes
+disputeReport pages = done ofPages
 
 -- what each case of the code's answer tells
 abbrev pub settling : Settled → Answer Ruling
@@ -49,11 +50,11 @@ settling Nodes = done ofNodes
 settling Pages = done ofPages
 
 -- the pair buffer after it
-unfoldable pub pairAfter : Finding → List ℕ → List ℕ
-pairAfter (refused n) b = b
-pairAfter alike b = b
-pairAfter (nodes s t) b = over (s ++ t) b
-pairAfter pages b = b
+unfoldable pub pairDisputed : Finding → List ℕ → List ℕ
+pairDisputed (refused n) b = b
+pairDisputed alike b = b
+pairDisputed (nodes s t) b = over (s ++ t) b
+pairDisputed pages b = b
 
 -- a carried path is carried on; a collision ends the work
 unfoldable pub onward : Forward → (List ℕ → Finding) → Finding
@@ -67,15 +68,11 @@ settled page₁ page₂ (Comparison.refused n) = refused n
 settled page₁ page₂ Comparison.equal = cond (same page₁ page₂) alike pages
 settled page₁ page₂ (Comparison.collision s t) = nodes s t
 
--- a number comes before what follows it
-unfoldable pub unless : ℕ → Finding → Finding
-unless number rest = cond (eqb number 0) rest (refused number)
-
 module _ (H : List ℕ → List ℕ) where
   -- with the first page's path p under a size m and a root r: over each head, in order, then against the second page's path
   unfoldable pub follow : ℕ → List ℕ → List ℕ → List ℕ → ℕ → Heads → ℕ → List ℕ → List ℕ → Finding
   follow place page₁ page₂ path₂ pair end m r p = settled page₁ page₂ (compare H place m r (H (0 ∷ page₁)) p (H (0 ∷ page₂)) path₂ pair)
-  follow place page₁ page₂ path₂ pair cut m r p = refused 2
+  follow place page₁ page₂ path₂ pair truncated m r p = refused 2
   follow place page₁ page₂ path₂ pair (then n s q hs) m r p =
       onward (carry H (H (0 ∷ page₁)) place m n r s p q longestPath pair) (follow place page₁ page₂ path₂ pair hs n s)
 
@@ -85,4 +82,4 @@ module _ (H : List ℕ → List ℕ) where
   dispute page₁ place path₁ size root heads page₂ path₂ pair =
       cond (ltb mostItem (length page₁)) (refused 1)
       (cond (ltb mostItem (length page₂)) (refused 1)
-      (unless (inclusionVerdict H (H (0 ∷ page₁)) place size root path₁) (follow place page₁ page₂ path₂ pair heads size root path₁)))
+      (unless refused (inclusionVerdict H (H (0 ∷ page₁)) place size root path₁) (follow place page₁ page₂ path₂ pair heads size root path₁)))

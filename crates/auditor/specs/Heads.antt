@@ -10,13 +10,13 @@ use Rattle.octets.specs.Numbers.{be, unbe}
 -- `cut` where a buffer ends within a head
 pub data Heads : Type 0 where
   end : Heads
-  cut : Heads
+  truncated : Heads
   then : (size : ℕ) (root path : List ℕ) → Heads → Heads
 
 -- heads joined
 unfoldable pub joinedHeads : Heads → List ℕ
 joinedHeads end = []
-joinedHeads cut = []
+joinedHeads truncated = []
 joinedHeads (then size root path hs) = be 8 size ++ (root ++ (be 2 (length path / 32) ++ (path ++ joinedHeads hs)))
 
 -- the parts of the first head
@@ -41,7 +41,7 @@ unfoldable pub headsIn : ℕ → List ℕ → Heads
 headsIn zero s = end
 headsIn (suc f) s =
     cond (eqb (length s) 0) end
-    (cond (eqb (headBytes s) 0) cut
+    (cond (eqb (headBytes s) 0) truncated
     (then (sizeOf s) (rootOf s) (pathOf s) (headsIn f (drop (headBytes s) s))))
 
 abbrev pub headsOf : List ℕ → Heads
@@ -50,16 +50,16 @@ headsOf s = headsIn (length s) s
 -- how many they are
 unfoldable pub howMany : Heads → ℕ
 howMany end = 0
-howMany cut = 0
+howMany truncated = 0
 howMany (then size root path hs) = suc (howMany hs)
 
 -- the last of them: its size and its root; these where there is none
 unfoldable pub lastSize : ℕ → Heads → ℕ
 lastSize n end = n
-lastSize n cut = n
+lastSize n truncated = n
 lastSize n (then size root path hs) = lastSize size hs
 
 unfoldable pub lastRoot : List ℕ → Heads → List ℕ
 lastRoot r end = r
-lastRoot r cut = r
+lastRoot r truncated = r
 lastRoot r (then size root path hs) = lastRoot root hs

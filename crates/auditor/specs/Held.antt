@@ -25,8 +25,8 @@ abbrev pub stayed : ℕ → Record → Answered
 stayed n r = record { number = n; after = r }
 
 -- the code's empty record
-unfoldable pub none : Record
-none = record { held = false; id = replicate 127 0; idlen = 0; timestamp = 0; size = 0; root = replicate 32 0 }
+unfoldable pub emptyRecord : Record
+emptyRecord = record { held = false; id = replicate 127 0; idlen = 0; timestamp = 0; size = 0; root = replicate 32 0 }
 
 -- the code's record of a head: the log id has zeros after it
 unfoldable pub holding : List ℕ → ℕ → ℕ → List ℕ → Record

@@ -24,9 +24,9 @@ append room used size root path =
     (into (room - used) (joinedHeads (then size root path end))))
 
 -- what it tells: the number, or how many bytes are used after it
-unfoldable pub report : ℕ → Outcome → Answer ℕ
-report used (refused n) = Answer.refused n
-report used (wrote w) = done (used + length w)
+unfoldable pub appendReport : ℕ → Outcome → Told ℕ
+appendReport used (refused n) = Told.refused n
+appendReport used (wrote w) = done (used + length w)
 
 -- the buffer after it: a refusal changes nothing, and the bytes before and after the head stay
 unfoldable pub journalAfter : ℕ → Outcome → List ℕ → List ℕ

@@ -8,12 +8,13 @@ use Rattle.hash.specs.Digest.{sha256}
 use Rattle.tree.specs.Limits.{mostNodes}
 use Rattle.octets.specs.Answer.{Answer, done, refused}
 use Rattle.auditor.specs.declared.Record.{Record}
-use Rattle.auditor.specs.Held.{none}
+use Rattle.auditor.specs.Held.{emptyRecord}
 use Rattle.auditor.specs.Heads.{joinedHeads, headsOf, howMany}
-use Rattle.auditor.specs.Journal.{append, report, journalAfter}
-use Rattle.auditor.specs.Dispute.{dispute, report as told, pairAfter}
+use Rattle.auditor.specs.Journal.{append, appendReport, journalAfter}
+use Rattle.auditor.specs.Dispute.{dispute, disputeReport, pairDisputed}
 use Rattle.auditor.specs.Calls.{Call, offer, ask, Entry, answered, called, answers, final, heads}
 use Rattle.auditor.specs.Demand.{Settles}
+use Rattle.carry.specs.Limits.{pairBytes}
 
 -- a journal: the lent buffer and how many of its bytes are used; lost where an append was refused with a number
 pub data Journal : Type 0 where
@@ -26,16 +27,16 @@ noted bytes (done used) = kept bytes used
 noted bytes (refused n) = lost n
 
 -- a journal that is kept is written on
-unfoldable pub onward : Journal → (List ℕ → ℕ → Journal) → Journal
-onward (kept bytes used) go = go bytes used
-onward (lost n) go = lost n
+unfoldable pub ifKept : Journal → (List ℕ → ℕ → Journal) → Journal
+ifKept (kept bytes used) go = go bytes used
+ifKept (lost n) go = lost n
 
 -- every accepted head of some entries appended, in order
 unfoldable pub journaled : List Entry → List ℕ → ℕ → Journal
 journaled [] bytes used = kept bytes used
 journaled (answered (offer id time size root path) zero ∷ entries) bytes used =
     (let o = append (length bytes) used size root path in
-    onward (noted (journalAfter used o bytes) (report used o)) (journaled entries))
+    ifKept (noted (journalAfter used o bytes) (appendReport used o)) (journaled entries))
 journaled (answered (offer id time size root path) (suc n) ∷ entries) bytes used = journaled entries bytes used
 journaled (answered (ask place page path) n ∷ entries) bytes used = journaled entries bytes used
 
@@ -65,9 +66,9 @@ LongEnough =
 abbrev pub AsKept : Type 0
 AsKept =
     (earlier between : List Call) (place : ℕ) (page₁ path₁ page₂ path₂ lent bytes : List ℕ) (used : ℕ) (pair : List ℕ) →
-    (let held = final none earlier in
+    (let held = final emptyRecord earlier in
     let first = called held (ask place page₁ path₁) in
     let second = called (final (first .after) between) (ask place page₂ path₂) in
-    first .number ≡ 0 → journaled (answers (first .after) between) lent 0 ≡ kept bytes used → second .number ≡ 0 → 130 ≤ length pair →
+    first .number ≡ 0 → journaled (answers (first .after) between) lent 0 ≡ kept bytes used → second .number ≡ 0 → pairBytes ≤ length pair →
     (let d = dispute sha256 page₁ place path₁ (held .size) (held .root) (headsOf (take used bytes)) page₂ path₂ (length pair) in
-    Settles page₁ page₂ (told d) (pairAfter d pair)))
+    Settles page₁ page₂ (disputeReport d) (pairDisputed d pair)))

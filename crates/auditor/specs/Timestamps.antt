@@ -7,7 +7,7 @@ use lib.Dec.{ltb, eqb}
 use lib.ListN.{length}
 use Rattle.octets.specs.Bytes.{same}
 use Rattle.tree.specs.Verdict.{consistencyVerdict}
-use Rattle.auditor.specs.Held.{empty, head, view, none}
+use Rattle.auditor.specs.Held.{empty, head, view, emptyRecord}
 use Rattle.auditor.specs.Offer.{outside, against}
 use Rattle.auditor.specs.Calls.{Call, offer, Entry, answered, called, answers, final, run}
 
@@ -20,14 +20,14 @@ OneHeadEach entries =
 
 -- whatever an auditor is called with, over any hash; and of the code
 abbrev pub OneTimestamp : Type 0
-OneTimestamp = ((H : List ℕ → List ℕ) (calls : List Call) → OneHeadEach (run H empty calls)) × ((calls : List Call) → OneHeadEach (answers none calls))
+OneTimestamp = ((H : List ℕ → List ℕ) (calls : List Call) → OneHeadEach (run H empty calls)) × ((calls : List Call) → OneHeadEach (answers emptyRecord calls))
 
 -- the head held, offered again with its timestamp or a later one: accepted with an empty path, and 7 with any other of whole nodes
 abbrev pub HeldAgain : Type 0
 HeldAgain =
     (calls : List Call) (id : List ℕ) (time again size : ℕ) (root path : List ℕ) →
-    view (final none calls) ≡ head id time size root → time ≤ again → length path % 32 ≡ 0 →
-    called (final none calls) (offer id again size root path) .number ≡ cond (eqb (length path) 0) 0 7
+    view (final emptyRecord calls) ≡ head id time size root → time ≤ again → length path % 32 ≡ 0 →
+    called (final emptyRecord calls) (offer id again size root path) .number ≡ cond (eqb (length path) 0) 0 7
 
 module _ (H : List ℕ → List ℕ) (id₀ : List ℕ) (time₀ size₀ : ℕ) (root₀ id : List ℕ) (time size : ℕ) (root path : List ℕ) where
   -- the number by the tests in their order, where the one for 12 says this

@@ -16,10 +16,10 @@ ghost use Prim.Native.Nat.{_-_, _*_, _≤_};
 ghost use lib.ListN.{length, take};
 ghost use Rattle.hash.specs.Digest.{sha256};
 ghost use Rattle.tree.specs.Verdict.{inclusionVerdict};
-ghost use Rattle.carry.specs.Forward.{carry as carryTo, carrying, report as carriedAs, pathAfter as carriedPath, pairAfter as carriedPair};
+ghost use Rattle.carry.specs.Forward.{carry as carryTo, carrying, carryReport, pathCarried, pairCarried};
 ghost use Rattle.carry.specs.Compare.{compare as compareTo};
 ghost use Rattle.auditor.specs.Heads.{sizeOf, rootOf, countOf, pathOf, headsOf};
-ghost use Rattle.auditor.specs.Dispute.{longestPath, settled, follow, settling, report, pairAfter};
+ghost use Rattle.auditor.specs.Dispute.{longestPath, settled, follow, settling, disputeReport, pairDisputed};
 ghost use Rattle.auditor.specs.Dispute as paper;
 
 // What a dispute answers: the pages are the same; two strings of nodes that differ and have one hash were written; the two pages, each with 0x00 before
@@ -52,10 +52,18 @@ fn over_head(
     out: &mut [u8],
     pair: &mut [u8],
 ) -> Carried
-    requires { ⌜ (42 ≤ count) × (count ≤ length (now heads)) × (count - 42 ≡ 32 * countOf (now heads)) × (length (now out) ≡ longestPath) ⌝ }
-    ensures { λ r. ⌜ carrying r ≡ carriedAs (carryTo sha256 (now (leaf .entry)) place m (sizeOf (now (heads .entry))) (now (root .entry)) (rootOf (now (heads .entry))) (now (path .entry)) (pathOf (now (heads .entry))) longestPath (length (now (pair .entry)))) ⌝ }
-    ensures { λ _. ⌜ now (out .exit) ≡ carriedPath (carryTo sha256 (now (leaf .entry)) place m (sizeOf (now (heads .entry))) (now (root .entry)) (rootOf (now (heads .entry))) (now (path .entry)) (pathOf (now (heads .entry))) longestPath (length (now (pair .entry)))) (now (out .entry)) ⌝ }
-    ensures { λ _. ⌜ now (pair .exit) ≡ carriedPair (carryTo sha256 (now (leaf .entry)) place m (sizeOf (now (heads .entry))) (now (root .entry)) (rootOf (now (heads .entry))) (now (path .entry)) (pathOf (now (heads .entry))) longestPath (length (now (pair .entry)))) (now (pair .entry)) ⌝ }
+    requires { ⌜
+        (42 ≤ count)
+        × (count ≤ length (now heads))
+        × (count - 42 ≡ 32 * countOf (now heads))
+        × (length (now out) ≡ longestPath) ⌝ }
+    ensures { λ r. ⌜
+        (let s = now (heads .entry) in
+        let o = carryTo sha256 (now (leaf .entry)) place m (sizeOf s) (now (root .entry)) (rootOf s) (now (path .entry)) (pathOf s) longestPath
+        (length (now (pair .entry))) in
+        (carrying r ≡ carryReport o)
+        × ((now (out .exit) ≡ pathCarried o (now (out .entry)))
+        × (now (pair .exit) ≡ pairCarried o (now (pair .entry))))) ⌝ }
 {
     let n = size_of(heads);
     carry(
@@ -85,8 +93,11 @@ fn settle(
     path2: &[u8],
     pair: &mut [u8],
 ) -> Settled
-    ensures { λ r. ⌜ settling r ≡ report (settled (now (page1 .entry)) (now (page2 .entry)) (compareTo sha256 place size (now (root .entry)) (now (leaf1 .entry)) (now (path1 .entry)) (now (leaf2 .entry)) (now (path2 .entry)) (length (now (pair .entry))))) ⌝ }
-    ensures { λ _. ⌜ now (pair .exit) ≡ pairAfter (settled (now (page1 .entry)) (now (page2 .entry)) (compareTo sha256 place size (now (root .entry)) (now (leaf1 .entry)) (now (path1 .entry)) (now (leaf2 .entry)) (now (path2 .entry)) (length (now (pair .entry))))) (now (pair .entry)) ⌝ }
+    ensures { λ r. ⌜
+        (let compared = compareTo sha256 place size (now (root .entry)) (now (leaf1 .entry)) (now (path1 .entry)) (now (leaf2 .entry)) (now (path2 .entry))
+        (length (now (pair .entry))) in
+        let o = settled (now (page1 .entry)) (now (page2 .entry)) compared in
+        (settling r ≡ disputeReport o) × (now (pair .exit) ≡ pairDisputed o (now (pair .entry)))) ⌝ }
 {
     let compared = compare(place, size, root, leaf1, path1, leaf2, path2, pair);
     match compared {
@@ -115,9 +126,15 @@ fn work(
     path2: &[u8],
     pair: &mut [u8],
 ) -> Settled
-    requires { ⌜ (length (now path1) ≤ longestPath) × (length (now root) ≡ 32) × (one .bytes ≡ sha256 (0 ∷ now page1)) × (two .bytes ≡ sha256 (0 ∷ now page2)) ⌝ }
-    ensures { λ r. ⌜ settling r ≡ report (follow sha256 place (now (page1 .entry)) (now (page2 .entry)) (now (path2 .entry)) (length (now (pair .entry))) (headsOf (now (heads .entry))) size (now (root .entry)) (now (path1 .entry))) ⌝ }
-    ensures { λ _. ⌜ now (pair .exit) ≡ pairAfter (follow sha256 place (now (page1 .entry)) (now (page2 .entry)) (now (path2 .entry)) (length (now (pair .entry))) (headsOf (now (heads .entry))) size (now (root .entry)) (now (path1 .entry))) (now (pair .entry)) ⌝ }
+    requires { ⌜
+        (length (now path1) ≤ longestPath)
+        × (length (now root) ≡ 32)
+        × (one .bytes ≡ sha256 (0 ∷ now page1))
+        × (two .bytes ≡ sha256 (0 ∷ now page2)) ⌝ }
+    ensures { λ r. ⌜
+        (let o = follow sha256 place (now (page1 .entry)) (now (page2 .entry)) (now (path2 .entry)) (length (now (pair .entry)))
+        (headsOf (now (heads .entry))) size (now (root .entry)) (now (path1 .entry)) in
+        (settling r ≡ disputeReport o) × (now (pair .exit) ≡ pairDisputed o (now (pair .entry)))) ⌝ }
 {
     let leaf1 = one.bytes;
     let leaf2 = two.bytes;
@@ -173,7 +190,7 @@ fn work(
 
 // Two pages at one place, from the arguments of accepted calls alone: the first page, its place and path, the size and root of the head then held, the
 // heads accepted since, and the second page with its path. Order: 1 for either page; the first proof's verdict; over each head 2 where it is cut
-// short, then what carrying refuses; then what comparing refuses. The first collision met ends the work.
+// short, then what carrying refuses; then what comparing refuses. The first collision ends the work.
 pub fn dispute(
     page1: &[u8],
     place: u64,
@@ -185,8 +202,10 @@ pub fn dispute(
     path2: &[u8],
     pair: &mut [u8],
 ) -> Settled
-    ensures { λ r. ⌜ settling r ≡ report (paper.dispute sha256 (now (page1 .entry)) place (now (path1 .entry)) size (now (root .entry)) (headsOf (now (heads .entry))) (now (page2 .entry)) (now (path2 .entry)) (length (now (pair .entry)))) ⌝ }
-    ensures { λ _. ⌜ now (pair .exit) ≡ pairAfter (paper.dispute sha256 (now (page1 .entry)) place (now (path1 .entry)) size (now (root .entry)) (headsOf (now (heads .entry))) (now (page2 .entry)) (now (path2 .entry)) (length (now (pair .entry)))) (now (pair .entry)) ⌝ }
+    ensures { λ r. ⌜
+        (let o = paper.dispute sha256 (now (page1 .entry)) place (now (path1 .entry)) size (now (root .entry)) (headsOf (now (heads .entry)))
+        (now (page2 .entry)) (now (path2 .entry)) (length (now (pair .entry))) in
+        (settling r ≡ disputeReport o) × (now (pair .exit) ≡ pairDisputed o (now (pair .entry)))) ⌝ }
 {
     let first = hash::leaf(page1);
     if first.number != 0 {

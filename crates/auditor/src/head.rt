@@ -48,7 +48,8 @@ fn is_stale(r: Record, timestamp: u64, size: u64, root: &[u8]) -> bool
 
 // A later head, against the one held: 11, 6, 12, 13, then the consistency verdict.
 fn later_number(r: Record, id: &[u8], timestamp: u64, size: u64, root: &[u8], path: &[u8]) -> u32
-    ensures { λ n. ⌜ n ≡ against sha256 (idOf r) (r .timestamp) (r .size) (r .root) (now (id .entry)) timestamp size (now (root .entry)) (now (path .entry)) ⌝ }
+    ensures { λ n. ⌜
+        n ≡ against sha256 (idOf r) (r .timestamp) (r .size) (r .root) (now (id .entry)) timestamp size (now (root .entry)) (now (path .entry)) ⌝ }
 {
     if !same_log(r, id) {
         return 11;

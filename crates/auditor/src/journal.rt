@@ -7,7 +7,7 @@ ghost use Prim.Native.Nat.{_+_, _*_, _%_, _≤_};
 ghost use lib.ListN.{length};
 ghost use Rattle.octets.specs.Bytes.{put as putBytes};
 ghost use Rattle.auditor.specs.Heads.{end, then, joinedHeads};
-ghost use Rattle.auditor.specs.Journal.{mostCount, report, journalAfter, appending};
+ghost use Rattle.auditor.specs.Journal.{mostCount, appendReport, journalAfter, appending};
 ghost use Rattle.auditor.specs.Journal as paper;
 
 // The most nodes that the two bytes of a count hold.
@@ -21,8 +21,12 @@ pub enum Appended {
 
 // Writes a head behind what is used: its size, its root, its count of nodes and the nodes.
 fn join(journal: &mut [u8], used: usize, size: u64, root: &[u8], path: &[u8])
-    requires { ⌜ (length (now root) ≡ 32) × (length (now path) ≤ 32 * mostCount) × (length (now path) % 32 ≡ 0) × (used + (42 + length (now path)) ≤ length (now journal)) ⌝ }
-    ensures { λ _. ⌜ now (journal .exit) ≡ putBytes (now (journal .entry)) used (joinedHeads (then size (now (root .entry)) (now (path .entry)) end)) ⌝ }
+    requires { ⌜
+        (length (now root) ≡ 32)
+        × (length (now path) ≤ 32 * mostCount)
+        × (length (now path) % 32 ≡ 0)
+        × (used + (42 + length (now path)) ≤ length (now journal)) ⌝ }
+    ensures { λ _. ⌜ now (journal .exit) ≡ put (now (journal .entry)) used (joinedHeads (then size (now (root .entry)) (now (path .entry)) end)) ⌝ }
 {
     let n = path.len();
     put_number(journal, used, Width::Eight, size);
@@ -34,8 +38,9 @@ fn join(journal: &mut [u8], used: usize, size: u64, root: &[u8], path: &[u8])
 // Joins an accepted head on, by the arguments of its offer, in a buffer of which so many bytes are used. Order: 5 for a root not of 32 bytes or a path of
 // more nodes than its count can say, 10, and 9 where the head does not fit behind what is used. What `dispute` takes as the heads is the used part.
 pub fn append(journal: &mut [u8], used: usize, size: u64, root: &[u8], path: &[u8]) -> Appended
-    ensures { λ r. ⌜ appending r ≡ report used (paper.append (length (now (journal .entry))) used size (now (root .entry)) (now (path .entry))) ⌝ }
-    ensures { λ _. ⌜ now (journal .exit) ≡ journalAfter used (paper.append (length (now (journal .entry))) used size (now (root .entry)) (now (path .entry))) (now (journal .entry)) ⌝ }
+    ensures { λ r. ⌜
+        (let o = paper.append (length (now (journal .entry))) used size (now (root .entry)) (now (path .entry)) in
+        (appending r ≡ appendReport used o) × (now (journal .exit) ≡ journalAfter used o (now (journal .entry)))) ⌝ }
 {
     if root.len() != 32 {
         return Appended::Refused(5);

@@ -14,7 +14,7 @@ ghost use mathlib.Core.Path.{_≡_};
 ghost use Rattle.octets.specs.Answer.{Faithful};
 ghost use Rattle.auditor.specs.Dispute.{settling};
 ghost use Rattle.auditor.specs.Journal.{appending};
-ghost use Rattle.auditor.specs.Held.{none, stayed};
+ghost use Rattle.auditor.specs.Held.{emptyRecord, stayed};
 ghost use Rattle.auditor.specs.Demand.{Demand3, WhateverGiven, TwoAuditors};
 ghost use Rattle.auditor.specs.Keeping.{JournalJoins, LongEnough, AsKept};
 ghost use Rattle.auditor.specs.Examples.{Disputed};
@@ -41,7 +41,7 @@ pub struct Answered {
 
 // The record that holds nothing.
 pub fn empty() -> Record
-    ensures { λ r. ⌜ r ≡ none ⌝ }
+    ensures { λ r. ⌜ r ≡ emptyRecord ⌝ }
 {
     Record {
         held: false,

@@ -13,15 +13,16 @@ use Rattle.tree.specs.Limits.{mostNodes}
 use Rattle.tree.specs.Count.{inclusionCount, subproofCount, consistencyCount}
 use Rattle.tree.specs.Yield.{inclusionRoot, oldRoot, newRoot}
 use Rattle.tree.specs.Joined.{firstNodes, nodes, nodesFrom, joined, hashAt}
-use Rattle.tree.specs.Verdict.{inclusionVerdict, consistencyVerdict}
-use Rattle.octets.specs.Bytes.{over}
+use Rattle.tree.specs.Verdict.{unless, inclusionVerdict, consistencyVerdict}
+use Rattle.tree.specs.Build.{over}
 use Rattle.tree.proofs.Counting.{bounds}
 use Rattle.tree.proofs.Accepting.{inclusion-accepted, inclusion-accepts, consistency-accepted, consistency-accepts}
 use Rattle.tree.proofs.Joining.{All32, nodes-first, nodes-length, all-nodes, whole-hash, first-length, joined-append, joined-length, nodes-joined}
-use Rattle.carry.proofs.Refusing.{accepted, passed}
-use Rattle.octets.specs.Answer.{Answer, done}
+use Rattle.carry.specs.Limits.{pairBytes}
+use Rattle.carry.proofs.Refusing.{opened, passed}
+use Rattle.sha256.specs.Told.{Told, done}
 use Rattle.carry.specs.Strings.{Difference, alike, apart, Collides}
-use Rattle.carry.specs.Forward.{Forward, refused, carried, collision, Moved, report, pathAfter, pairAfter, unless, settled, conflict, forward, carry}
+use Rattle.carry.specs.Forward.{Forward, refused, carried, collision, Moved, carryReport, pathCarried, pairCarried, forwarded, conflict, forward, carry}
 use Rattle.carry.specs.Carries.{Carrying}
 use Rattle.carry.specs.Inner.{pathFrom, Fit, Agree, either}
 use Rattle.carry.proofs.Stepping.{conflict-all, forward-all}
@@ -80,31 +81,31 @@ module _ (H : List ℕ → List ℕ) (leaf : List ℕ) (place m n : ℕ) (root�
         path-short l = rw (← e, ← g, eq-eqb v 0 z, eq-eqb w 0 y, lt-ltb room (32 * inclusionCount place n) l)
 
         module _ (r : 32 * inclusionCount place n ≤ room) where
-          pub pair-short : pair < 130 → C ≡ refused 9
+          pub pair-short : pair < pairBytes → C ≡ refused 9
           unfolding carry unless
-          pair-short l = rw (← e, ← g, eq-eqb v 0 z, eq-eqb w 0 y, le-ltb room (32 * inclusionCount place n) r, lt-ltb pair 130 l)
+          pair-short l = rw (← e, ← g, eq-eqb v 0 z, eq-eqb w 0 y, le-ltb room (32 * inclusionCount place n) r, lt-ltb pair pairBytes l)
 
-          pub long : 130 ≤ pair → C ≡ settled (conflict H m n place leaf (nodes path) root₁ (nodes proof)) (joined (forward H m n place (nodes path) root₁ (nodes proof)))
+          pub long : pairBytes ≤ pair → C ≡ forwarded (conflict H m n place leaf (nodes path) root₁ (nodes proof)) (joined (forward H m n place (nodes path) root₁ (nodes proof)))
           unfolding carry unless
-          long l = rw (← e, ← g, eq-eqb v 0 z, eq-eqb w 0 y, le-ltb room (32 * inclusionCount place n) r, le-ltb pair 130 l)
+          long l = rw (← e, ← g, eq-eqb v 0 z, eq-eqb w 0 y, le-ltb room (32 * inclusionCount place n) r, le-ltb pair pairBytes l)
 
 -- what is told and the buffers, by what is carried
-pub tells-refused : {c : Forward} {k : ℕ} (o b : List ℕ) → c ≡ refused k → (Answer.refused k ≡ report c) × ((o ≡ pathAfter c o) × (b ≡ pairAfter c b))
-unfolding report pathAfter pairAfter
+pub tells-refused : {c : Forward} {k : ℕ} (o b : List ℕ) → c ≡ refused k → (Told.refused k ≡ carryReport c) × ((o ≡ pathCarried c o) × (b ≡ pairCarried c b))
+unfolding carryReport pathCarried pairCarried
 tells-refused o b e = rw e (refl, (refl, refl))
 
-pub tells-apart : {c : Forward} {d : Difference} {s t y : List ℕ} (w o b : List ℕ) → c ≡ settled d w → d ≡ apart s t → y ≡ over (s ++ t) b → (done Moved.ofStrings ≡ report c) × ((o ≡ pathAfter c o) × (y ≡ pairAfter c b))
-unfolding report pathAfter pairAfter settled
+pub tells-apart : {c : Forward} {d : Difference} {s t y : List ℕ} (w o b : List ℕ) → c ≡ forwarded d w → d ≡ apart s t → y ≡ over (s ++ t) b → (done Moved.ofStrings ≡ carryReport c) × ((o ≡ pathCarried c o) × (y ≡ pairCarried c b))
+unfolding carryReport pathCarried pairCarried forwarded
 tells-apart w o b e f g = rw (e, f, g) (refl, (refl, refl))
 
-pub tells-path : {c : Forward} {d : Difference} {w y : List ℕ} {r : ℕ} (u o b : List ℕ) → c ≡ settled d w → d ≡ alike → w ≡ u → r ≡ length u → y ≡ over u o → (done (Moved.ofPath r) ≡ report c) × ((y ≡ pathAfter c o) × (b ≡ pairAfter c b))
-unfolding report pathAfter pairAfter settled
+pub tells-path : {c : Forward} {d : Difference} {w y : List ℕ} {r : ℕ} (u o b : List ℕ) → c ≡ forwarded d w → d ≡ alike → w ≡ u → r ≡ length u → y ≡ over u o → (done (Moved.ofPath r) ≡ carryReport c) × ((y ≡ pathCarried c o) × (b ≡ pairCarried c b))
+unfolding carryReport pathCarried pairCarried forwarded
 tells-path u o b e f h i g = rw (e, f, h, i, g) (refl, (refl, refl))
 
 -- what the code walked, of the bytes as they came
 module _ (H : List ℕ → List ℕ) (leaf : List ℕ) (place m n : ℕ) (root₁ path proof : List ℕ) (two : Both leaf place m n root₁ path proof) {h f : List ℕ} (eh : h ≡ hashAt 0 leaf) (ef : f ≡ hashAt 0 root₁) where
-  pub met-walked : {d : Difference} → d ≡ conflict H m n place h (firstNodes (length path / 32) path) f (firstNodes (length proof / 32) proof) → d ≡ conflict H m n place leaf (nodes path) root₁ (nodes proof)
-  met-walked e = e ∙ rw (eh, ef, whole-hash leaf (two .leaf-32), whole-hash root₁ (two .root-32), nodes-first path, nodes-first proof)
+  pub difference-walked : {d : Difference} → d ≡ conflict H m n place h (firstNodes (length path / 32) path) f (firstNodes (length proof / 32) proof) → d ≡ conflict H m n place leaf (nodes path) root₁ (nodes proof)
+  difference-walked e = e ∙ rw (eh, ef, whole-hash leaf (two .leaf-32), whole-hash root₁ (two .root-32), nodes-first path, nodes-first proof)
 
   pub path-walked : {p : List (List ℕ)} → p ≡ forward H m n place (firstNodes (length path / 32) path) f (firstNodes (length proof / 32) proof) → p ≡ forward H m n place (nodes path) root₁ (nodes proof)
   path-walked e = e ∙ rw (ef, whole-hash root₁ (two .root-32), nodes-first path, nodes-first proof)
@@ -133,7 +134,7 @@ module _ (low hashed : ℕ) (sibling : List ℕ) (high : ℕ) (path proof : List
       simp length-append (omega arith)
 
 -- a carrying that one verdict refuses
-either-of : (v w : ℕ) (c : Forward) → (v ≡ 0 → w ≡ 0 → ⊥) → unless v (unless w c) ≡ refused (either v w)
+either-of : (v w : ℕ) (c : Forward) → (v ≡ 0 → w ≡ 0 → ⊥) → unless refused v (unless refused w c) ≡ refused (either v w)
 unfolding unless
 either-of v w c h = go (eqb v 0) refl (eqb w 0) refl
   where
@@ -218,41 +219,37 @@ module _ (H : List ℕ → List ℕ) (leaf : List ℕ) (place m n : ℕ) (root�
 
 -- ---- the claims
 
-opened : (v : ℕ) (c d : Forward) → unless v c ≡ d → ((n : ℕ) → d ≡ refused n → ⊥) → (v ≡ 0) × (c ≡ d)
-unfolding unless
-opened v c d e h = accepted refused d h v c e
-
 is-collision : (s t : List ℕ) (n : ℕ) → collision s t ≡ refused n → ⊥
 is-collision s t n e = let z : _≡_ {A = ℕ} 0 1 = cc in omega arith
 
 is-carried : (w : List ℕ) (n : ℕ) → carried w ≡ refused n → ⊥
 is-carried w n e = let z : _≡_ {A = ℕ} 0 1 = cc in omega arith
 
-settled-apart : (d : Difference) (w s t : List ℕ) → settled d w ≡ collision s t → d ≡ apart s t
-unfolding settled
-settled-apart alike w s t e = absurd (let z : _≡_ {A = ℕ} 0 1 = cc in omega arith)
-settled-apart (apart u v) w s t e = cc
+forwarded-apart : (d : Difference) (w s t : List ℕ) → forwarded d w ≡ collision s t → d ≡ apart s t
+unfolding forwarded
+forwarded-apart alike w s t e = absurd (let z : _≡_ {A = ℕ} 0 1 = cc in omega arith)
+forwarded-apart (apart u v) w s t e = cc
 
-settled-alike : (d : Difference) (w u : List ℕ) → settled d w ≡ carried u → (d ≡ alike) × (w ≡ u)
-unfolding settled
-settled-alike alike w u e = (refl, cc)
-settled-alike (apart s t) w u e = absurd (let z : _≡_ {A = ℕ} 0 1 = cc in omega arith)
+forwarded-alike : (d : Difference) (w u : List ℕ) → forwarded d w ≡ carried u → (d ≡ alike) × (w ≡ u)
+unfolding forwarded
+forwarded-alike alike w u e = (refl, cc)
+forwarded-alike (apart s t) w u e = absurd (let z : _≡_ {A = ℕ} 0 1 = cc in omega arith)
 
-settles : (d : Difference) (w : List ℕ) (c : Forward) → c ≡ settled d w → ((u : List ℕ) × (c ≡ carried u)) ⊎ ((s : List ℕ) × ((t : List ℕ) × (c ≡ collision s t)))
-unfolding settled
+settles : (d : Difference) (w : List ℕ) (c : Forward) → c ≡ forwarded d w → ((u : List ℕ) × (c ≡ carried u)) ⊎ ((s : List ℕ) × ((t : List ℕ) × (c ≡ collision s t)))
+unfolding forwarded
 settles alike w c e = inl (w, e)
 settles (apart s t) w c e = inr (s, (t, e))
 
--- strings that are handed over were met by two accepted proofs
+-- strings that are handed over come of two accepted proofs
 pub handed : (H : List ℕ → List ℕ) (leaf : List ℕ) (place m n : ℕ) (root₁ root₂ path proof : List ℕ) (room pair : ℕ) (s t : List ℕ) → carry H leaf place m n root₁ root₂ path proof room pair ≡ collision s t →
     (inclusionVerdict H leaf place m root₁ path ≡ 0) × ((consistencyVerdict H m n root₁ root₂ proof ≡ 0) × (conflict H m n place leaf (nodes path) root₁ (nodes proof) ≡ apart s t))
 unfolding carry
 handed H leaf place m n root₁ root₂ path proof room pair s t e =
-    let a = opened (inclusionVerdict H leaf place m root₁ path) _ _ e (is-collision s t) in
-    let b = opened (consistencyVerdict H m n root₁ root₂ proof) _ _ (a .1) (is-collision s t) in
+    let a = opened refused (inclusionVerdict H leaf place m root₁ path) _ _ e (is-collision s t) in
+    let b = opened refused (consistencyVerdict H m n root₁ root₂ proof) _ _ (a .1) (is-collision s t) in
     let c = passed refused (collision s t) (is-collision s t) (ltb room (32 * inclusionCount place n)) 9 _ (b .1) in
-    let d = passed refused (collision s t) (is-collision s t) (ltb pair 130) 9 _ (c .1) in
-    (a .0, (b .0, settled-apart (conflict H m n place leaf (nodes path) root₁ (nodes proof)) (joined (forward H m n place (nodes path) root₁ (nodes proof))) s t (d .1)))
+    let d = passed refused (collision s t) (is-collision s t) (ltb pair pairBytes) 9 _ (c .1) in
+    (a .0, (b .0, forwarded-apart (conflict H m n place leaf (nodes path) root₁ (nodes proof)) (joined (forward H m n place (nodes path) root₁ (nodes proof))) s t (d .1)))
 
 module _ (H : List ℕ → List ℕ) (H32 : (s : List ℕ) → length (H s) ≡ 32) where
   module _ (leaf : List ℕ) (place m n : ℕ) (root₁ root₂ path proof : List ℕ) (e : inclusionVerdict H leaf place m root₁ path ≡ 0) (f : consistencyVerdict H m n root₁ root₂ proof ≡ 0) where
@@ -296,15 +293,15 @@ module _ (H : List ℕ → List ℕ) (H32 : (s : List ℕ) → length (H s) ≡ 
   apart-right y r d s t e w = rw e at w
 
   pub carrying : Carrying H
-  unfolding carry settled
+  unfolding carry forwarded
   carrying = record {
     carries = λ leaf place m n root₁ root₂ path proof room pair. record {
       accepted = λ w e.
-          let a = opened (inclusionVerdict H leaf place m root₁ path) _ _ e (is-carried w) in
-          let b = opened (consistencyVerdict H m n root₁ root₂ proof) _ _ (a .1) (is-carried w) in
+          let a = opened refused (inclusionVerdict H leaf place m root₁ path) _ _ e (is-carried w) in
+          let b = opened refused (consistencyVerdict H m n root₁ root₂ proof) _ _ (a .1) (is-carried w) in
           let c = passed refused (carried w) (is-carried w) (ltb room (32 * inclusionCount place n)) 9 _ (b .1) in
-          let d = passed refused (carried w) (is-carried w) (ltb pair 130) 9 _ (c .1) in
-          let f = settled-alike (conflict H m n place leaf (nodes path) root₁ (nodes proof)) (joined (forward H m n place (nodes path) root₁ (nodes proof))) w (d .1) in
+          let d = passed refused (carried w) (is-carried w) (ltb pair pairBytes) 9 _ (c .1) in
+          let f = forwarded-alike (conflict H m n place leaf (nodes path) root₁ (nodes proof)) (joined (forward H m n place (nodes path) root₁ (nodes proof))) w (d .1) in
           ap (inclusionVerdict H leaf place n root₂) (sym (f .1)) ∙ again leaf place m n root₁ root₂ path proof (a .0) (b .0) (f .0);
       collides = λ s t e.
           let a = handed H leaf place m n root₁ root₂ path proof room pair s t e in
@@ -313,13 +310,13 @@ module _ (H : List ℕ → List ℕ) (H32 : (s : List ℕ) → length (H s) ≡ 
           let D = conflict H m n place leaf (nodes path) root₁ (nodes proof) in
           let F = joined (forward H m n place (nodes path) root₁ (nodes proof)) in
           let g = long H leaf place m n root₁ root₂ path proof room pair (sym e) refl (sym f) refl r l in
-          (λ w. settled-apart D F s t (sym g ∙ w), λ w. g ∙ ap (λ (d : Difference). settled d F) w);
+          (λ w. forwarded-apart D F s t (sym g ∙ w), λ w. g ∙ ap (λ (d : Difference). forwarded d F) w);
       settles = λ e f r l.
           settles (conflict H m n place leaf (nodes path) root₁ (nodes proof)) (joined (forward H m n place (nodes path) root₁ (nodes proof))) _ (long H leaf place m n root₁ root₂ path proof room pair (sym e) refl (sym f) refl r l);
       stays = λ i e f r l.
           let t = both H leaf place m n root₁ root₂ path proof (sym e) refl (sym f) refl in
           let b = t .below in
           long H leaf place m n root₁ root₂ path proof room pair (sym e) refl (sym f) refl r l
-          ∙ ap₂ settled (conflict-all H m n place leaf (nodes path) root₁ (nodes proof) (omega arith) i) (ap joined (forward-all H m n place leaf (nodes path) root₁ (nodes proof) (omega arith) i) ∙ joined-nodes (inclusionCount place m) path (t .path-length));
+          ∙ ap₂ forwarded (conflict-all H m n place leaf (nodes path) root₁ (nodes proof) (omega arith) i) (ap joined (forward-all H m n place leaf (nodes path) root₁ (nodes proof) (omega arith) i) ∙ joined-nodes (inclusionCount place m) path (t .path-length));
     };
   }

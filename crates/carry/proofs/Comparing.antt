@@ -9,14 +9,15 @@ use lib.ListN.{length, take, drop, length-drop, take-append-drop}
 use borrow.Author.Tests.{lt-ltb, le-ltb, eq-eqb, ne-eqb}
 use Rattle.tree.specs.Count.{inclusionCount}
 use Rattle.tree.specs.Joined.{firstNodes, nodes, joined, hashAt}
-use Rattle.tree.specs.Verdict.{inclusionVerdict}
-use Rattle.octets.specs.Bytes.{over}
+use Rattle.tree.specs.Verdict.{unless, inclusionVerdict}
+use Rattle.tree.specs.Build.{over}
 use Rattle.tree.proofs.Accepting.{inclusion-accepted}
 use Rattle.tree.proofs.Joining.{nodes-first, nodes-length, all-nodes, whole-hash}
-use Rattle.carry.proofs.Refusing.{accepted, passed}
-use Rattle.octets.specs.Answer.{Answer, done}
+use Rattle.carry.specs.Limits.{pairBytes}
+use Rattle.carry.proofs.Refusing.{opened, passed}
+use Rattle.sha256.specs.Told.{Told, done}
 use Rattle.carry.specs.Strings.{Difference, alike, apart, Collides}
-use Rattle.carry.specs.Compare.{Comparison, refused, equal, collision, Likeness, report, pairAfter, unless, found, differ, compare}
+use Rattle.carry.specs.Compare.{Comparison, refused, equal, collision, Likeness, compareReport, pairCompared, found, differ, compare}
 use Rattle.carry.specs.Compares.{Comparing}
 use Rattle.carry.proofs.Differing.{Shows, differ-sound, differ-self}
 
@@ -57,39 +58,34 @@ module _ (H : List ℕ → List ℕ) (place n : ℕ) (root leaf₁ path₁ leaf�
       second-refused y = rw (← e, ← g, eq-eqb v 0 z, ne-eqb w 0 y)
 
       module _ (y : w ≡ 0) where
-        pub short : room < 130 → C ≡ refused 9
+        pub short : room < pairBytes → C ≡ refused 9
         unfolding compare unless
-        short l = rw (← e, ← g, eq-eqb v 0 z, eq-eqb w 0 y, lt-ltb room 130 l)
+        short l = rw (← e, ← g, eq-eqb v 0 z, eq-eqb w 0 y, lt-ltb room pairBytes l)
 
-        pub long : 130 ≤ room → C ≡ found F
+        pub long : pairBytes ≤ room → C ≡ found F
         unfolding compare unless
-        long l = rw (← e, ← g, eq-eqb v 0 z, eq-eqb w 0 y, le-ltb room 130 l)
+        long l = rw (← e, ← g, eq-eqb v 0 z, eq-eqb w 0 y, le-ltb room pairBytes l)
 
 -- what is told and the buffer, by what is compared
-pub tells-refused : {c : Comparison} {n : ℕ} (b : List ℕ) → c ≡ refused n → (Answer.refused n ≡ report c) × (b ≡ pairAfter c b)
-unfolding report pairAfter
+pub tells-refused : {c : Comparison} {n : ℕ} (b : List ℕ) → c ≡ refused n → (Told.refused n ≡ compareReport c) × (b ≡ pairCompared c b)
+unfolding compareReport pairCompared
 tells-refused b e = rw e (refl, refl)
 
-pub tells-same : {c : Comparison} {d : Difference} (b : List ℕ) → c ≡ found d → d ≡ alike → (done Likeness.same ≡ report c) × (b ≡ pairAfter c b)
-unfolding report pairAfter found
+pub tells-same : {c : Comparison} {d : Difference} (b : List ℕ) → c ≡ found d → d ≡ alike → (done Likeness.same ≡ compareReport c) × (b ≡ pairCompared c b)
+unfolding compareReport pairCompared found
 tells-same b e f = rw (e, f) (refl, refl)
 
-pub tells-apart : {c : Comparison} {d : Difference} {s t : List ℕ} {y : List ℕ} (b : List ℕ) → c ≡ found d → d ≡ apart s t → y ≡ over (s ++ t) b → (done Likeness.ofStrings ≡ report c) × (y ≡ pairAfter c b)
-unfolding report pairAfter found
+pub tells-apart : {c : Comparison} {d : Difference} {s t : List ℕ} {y : List ℕ} (b : List ℕ) → c ≡ found d → d ≡ apart s t → y ≡ over (s ++ t) b → (done Likeness.ofStrings ≡ compareReport c) × (y ≡ pairCompared c b)
+unfolding compareReport pairCompared found
 tells-apart b e f g = rw (e, f, g) (refl, refl)
 
--- what the code met, of the bytes as they came
-pub met-bytes : (H : List ℕ → List ℕ) (place n : ℕ) (leaf₁ path₁ leaf₂ path₂ : List ℕ) {d : Difference} {h g : List ℕ} → d ≡ differ H place n h (firstNodes (length path₁ / 32) path₁) g (firstNodes (length path₁ / 32) path₂) →
+-- what the code finds, of the bytes as they came
+pub difference-bytes : (H : List ℕ → List ℕ) (place n : ℕ) (leaf₁ path₁ leaf₂ path₂ : List ℕ) {d : Difference} {h g : List ℕ} → d ≡ differ H place n h (firstNodes (length path₁ / 32) path₁) g (firstNodes (length path₁ / 32) path₂) →
     h ≡ hashAt 0 leaf₁ → length leaf₁ ≡ 32 → g ≡ hashAt 0 leaf₂ → length leaf₂ ≡ 32 → length path₁ / 32 ≡ length path₂ / 32 → d ≡ differ H place n leaf₁ (nodes path₁) leaf₂ (nodes path₂)
-met-bytes H place n leaf₁ path₁ leaf₂ path₂ e p l₁ q l₂ c =
+difference-bytes H place n leaf₁ path₁ leaf₂ path₂ e p l₁ q l₂ c =
     e ∙ rw (p, q, whole-hash leaf₁ l₁, whole-hash leaf₂ l₂, nodes-first path₁, nodes-first path₂, c)
 
 -- ---- the claims
-
--- a verdict that is not 0 is the answer
-pub opened : (v : ℕ) (c d : Comparison) → unless v c ≡ d → ((n : ℕ) → d ≡ refused n → ⊥) → (v ≡ 0) × (c ≡ d)
-unfolding unless
-opened v c d e h = accepted refused d h v c e
 
 is-collision : (s t : List ℕ) (n : ℕ) → collision s t ≡ refused n → ⊥
 is-collision s t n e = let z : _≡_ {A = ℕ} 0 1 = cc in omega arith
@@ -117,9 +113,9 @@ pub handed : (H : List ℕ → List ℕ) (place n : ℕ) (root leaf₁ path₁ l
     (inclusionVerdict H leaf₁ place n root path₁ ≡ 0) × ((inclusionVerdict H leaf₂ place n root path₂ ≡ 0) × (differ H place n leaf₁ (nodes path₁) leaf₂ (nodes path₂) ≡ apart s t))
 unfolding compare
 handed H place n root leaf₁ path₁ leaf₂ path₂ room s t e =
-    let a = opened (inclusionVerdict H leaf₁ place n root path₁) _ _ e (is-collision s t) in
-    let b = opened (inclusionVerdict H leaf₂ place n root path₂) _ _ (a .1) (is-collision s t) in
-    let c = passed refused (collision s t) (is-collision s t) (ltb room 130) 9 _ (b .1) in
+    let a = opened refused (inclusionVerdict H leaf₁ place n root path₁) _ _ e (is-collision s t) in
+    let b = opened refused (inclusionVerdict H leaf₂ place n root path₂) _ _ (a .1) (is-collision s t) in
+    let c = passed refused (collision s t) (is-collision s t) (ltb room pairBytes) 9 _ (b .1) in
     (a .0, (b .0, found-apart (differ H place n leaf₁ (nodes path₁) leaf₂ (nodes path₂)) s t (c .1)))
 
 module _ (H : List ℕ → List ℕ) (H32 : (s : List ℕ) → length (H s) ≡ 32) where

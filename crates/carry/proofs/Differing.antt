@@ -37,8 +37,7 @@ module _ (H : List ℕ → List ℕ) where
       (λ (w : same (string a b) (string c d) ≡ false). rw (top-apart (string a b) (string c d) below w) (found (string a b) (string c d) record {
         first-65 = string-65 a b la lb;
         second-65 = string-65 c d lc ld;
-        different = differs (string a b) (string c d) w;
-        one-hash = e;
+        collision = record { different = differs (string a b) (string c d) w; one-hash = e };
       }))
       (same-cases (string a b) (string c d))
 

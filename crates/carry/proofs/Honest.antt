@@ -28,8 +28,9 @@ use Rattle.tree.proofs.Accepting.{inclusion-accepts, consistency-accepted, cons
 use Rattle.octets.proofs.Sameness.{same-of}
 use Rattle.tree.proofs.Joining.{All32, all-take, at-first, take-from, nodes-first, nodes-length, all-nodes, joined-length, nodes-joined}
 use Rattle.tree.proofs.Building.{complete}
+use Rattle.carry.specs.Limits.{pairBytes}
 use Rattle.carry.specs.Strings.{string, Difference, alike, topmost}
-use Rattle.carry.specs.Forward.{carried, settled, conflict, forward, carry}
+use Rattle.carry.specs.Forward.{carried, forwarded, conflict, forward, carry}
 use Rattle.carry.specs.Carries.{Honest}
 use Rattle.carry.proofs.Pairing.{top-same}
 use Rattle.carry.proofs.Sizing.{at-32}
@@ -190,9 +191,9 @@ module _ (H : List ℕ → List ℕ) where
   unfolding Holds Held consistency
   honest-list l m x f xm le = held l (omega arith) m x true f xm le
 
-settled-carried : (w : List ℕ) → settled alike w ≡ carried w
-unfolding settled
-settled-carried w = refl
+forwarded-carried : (w : List ℕ) → forwarded alike w ≡ carried w
+unfolding forwarded
+forwarded-carried w = refl
 
 -- the list's own proofs are accepted, and carry to its own path
 module _ (H : List ℕ → List ℕ) (H32 : (s : List ℕ) → length (H s) ≡ 32) (l : List (List ℕ)) (all : All32 l) (m x : ℕ) (xm : x < m) (le : m ≤ length l) (most : length l ≤ largestSize) where
@@ -236,7 +237,7 @@ module _ (H : List ℕ → List ℕ) (H32 : (s : List ℕ) → length (H s) ≡ 
         yields-second = ap (newRoot H m (length l) true o) e ∙ g .1;
       }
 
-  pub own-carried : (room pair : ℕ) → length (joined (path H x l)) ≤ room → 130 ≤ pair →
+  pub own-carried : (room pair : ℕ) → length (joined (path H x l)) ≤ room → pairBytes ≤ pair →
       carry H (getD l x []) x m (length l) (root H (take m l)) (root H l) (joined (path H x (take m l))) (joined (consistency H m l)) room pair ≡ carried (joined (path H x l))
   own-carried room pair fits long-pair =
       let n = length l in
@@ -247,8 +248,8 @@ module _ (H : List ℕ → List ℕ) (H32 : (s : List ℕ) → length (H s) ≡ 
       let bytes = joined-length (path H x l) (path-32 H H32 l (omega arith) x all) in
       let count = path-length H x l in
       long H (getD l x []) x m n o (root H l) (joined p) (joined q) room pair (sym own-inclusion) refl (sym own-consistency) refl (omega arith) long-pair
-      ∙ ap₂ settled (conflict-at H m x o refl refl (nodes-joined p old-path-32) (nodes-joined q proof-32) ∙ own .0)
-      (ap joined (forward-at H m x o refl (nodes-joined p old-path-32) (nodes-joined q proof-32) ∙ own .1)) ∙ settled-carried (joined (path H x l))
+      ∙ ap₂ forwarded (conflict-at H m x o refl refl (nodes-joined p old-path-32) (nodes-joined q proof-32) ∙ own .0)
+      (ap joined (forward-at H m x o refl (nodes-joined p old-path-32) (nodes-joined q proof-32) ∙ own .1)) ∙ forwarded-carried (joined (path H x l))
 
 -- ---- on bytes
 

@@ -8,15 +8,15 @@ use Rattle.tree.specs.Joined.{firstNodes, nodeAt}
 use Rattle.tree.specs.Yield.{oldRoot, newRoot}
 use Rattle.tree.proofs.Yielding.{both-low, both-high}
 
-module _ (H : List ℕ → List ℕ) (m n k : ℕ) (f : List ℕ) (j : ℕ) (s : List ℕ) (b : Bool) (z : 0 < m) (some : 0 < j) (lt : m < n) (cut : k ≡ split n) where
+module _ (H : List ℕ → List ℕ) (m n k : ℕ) (f : List ℕ) (j : ℕ) (s : List ℕ) (b : Bool) (z : 0 < m) (some : 0 < j) (lt : m < n) (at-split : k ≡ split n) where
   pub old-low : {x : List ℕ} → m ≤ k → x ≡ oldRoot H m k b f (firstNodes (j - 1) s) → x ≡ oldRoot H m n b f (firstNodes j s)
-  old-low h p = both-low H m n k f j s b z some lt cut h (p, refl) refl refl .0
+  old-low h p = both-low H m n k f j s b z some lt at-split h (p, refl) refl refl .0
 
   pub new-low : {x l r : List ℕ} → m ≤ k → x ≡ H (1 ∷ (l ++ r)) → l ≡ newRoot H m k b f (firstNodes (j - 1) s) → r ≡ nodeAt (j - 1) s → x ≡ newRoot H m n b f (firstNodes j s)
-  new-low h e p q = both-low H m n k f j s b z some lt cut h (refl, p) q e .1
+  new-low h e p q = both-low H m n k f j s b z some lt at-split h (refl, p) q e .1
 
   pub old-high : {x l r : List ℕ} → k < m → x ≡ H (1 ∷ (l ++ r)) → l ≡ nodeAt (j - 1) s → r ≡ oldRoot H (m - k) (n - k) false f (firstNodes (j - 1) s) → x ≡ oldRoot H m n b f (firstNodes j s)
-  old-high h e p q = both-high H m n k f j s b z some lt cut h (q, refl) p e refl .0
+  old-high h e p q = both-high H m n k f j s b z some lt at-split h (q, refl) p e refl .0
 
   pub new-high : {x l r : List ℕ} → k < m → x ≡ H (1 ∷ (l ++ r)) → l ≡ nodeAt (j - 1) s → r ≡ newRoot H (m - k) (n - k) false f (firstNodes (j - 1) s) → x ≡ newRoot H m n b f (firstNodes j s)
-  new-high h e p q = both-high H m n k f j s b z some lt cut h (refl, q) p refl e .1
+  new-high h e p q = both-high H m n k f j s b z some lt at-split h (refl, q) p refl e .1

@@ -6,11 +6,11 @@ use mathlib.Core.List.{List}
 use Prim.Native.Nat.{ℕ}
 use lib.ListN.{length, take, drop}
 use lib.Seq.{take-at, drop-at}
-use Rattle.octets.specs.Bytes.{same}
-use Rattle.octets.proofs.Sameness.{same-true, same-of, same-by}
-use Rattle.carry.specs.declared.level.Met.{Met}
+use Rattle.tree.specs.Joined.{same}
+use Rattle.tree.proofs.Joining.{same-true, same-of, same-by}
+use Rattle.carry.specs.declared.level.Recomputed.{Recomputed}
 use Rattle.carry.specs.Strings.{string, Difference, alike, apart, topmost}
-use Rattle.carry.specs.Inner.{metAs}
+use Rattle.carry.specs.Inner.{differenceOf}
 
 pub same-cases : (s t : List ℕ) → (s ≡ t) ⊎ (same s t ≡ false)
 same-cases s t = go (same s t) refl
@@ -50,12 +50,12 @@ module _ (s t : List ℕ) (below : Difference) where
   unfolding topmost
   top-apart e = rw e
 
--- what two proofs met, as the code has it
-module _ (w : Met) where
-  pub met-apart : w .apart ≡ true → metAs w ≡ apart (string (w .a .bytes) (w .b .bytes)) (string (w .c .bytes) (w .d .bytes))
-  unfolding metAs
-  met-apart e = rw e
+-- what the code recomputes of two proofs
+module _ (w : Recomputed) where
+  pub difference-apart : w .apart ≡ true → differenceOf w ≡ apart (string (w .a .bytes) (w .b .bytes)) (string (w .c .bytes) (w .d .bytes))
+  unfolding differenceOf
+  difference-apart e = rw e
 
-  pub met-alike : w .apart ≡ false → metAs w ≡ alike
-  unfolding metAs
-  met-alike e = rw e
+  pub difference-alike : w .apart ≡ false → differenceOf w ≡ alike
+  unfolding differenceOf
+  difference-alike e = rw e

@@ -38,30 +38,30 @@ from-more i q s h =
 
 module _ (H : List ℕ → List ℕ) where
   -- comparing: two paths of j nodes, joined in s and t
-  module _ (m n k : ℕ) (h g : List ℕ) (j : ℕ) (s t : List ℕ) (some : 0 < j) (more : 1 < n) (cut : k ≡ split n) {u x v y : List ℕ} {below : Difference} where
-    met-low : m < k → u ≡ inclusionRoot H m k h (firstNodes (j - 1) s) → x ≡ nodeAt (j - 1) s → v ≡ inclusionRoot H m k g (firstNodes (j - 1) t) → y ≡ nodeAt (j - 1) t →
+  module _ (m n k : ℕ) (h g : List ℕ) (j : ℕ) (s t : List ℕ) (some : 0 < j) (more : 1 < n) (at-split : k ≡ split n) {u x v y : List ℕ} {below : Difference} where
+    difference-low : m < k → u ≡ inclusionRoot H m k h (firstNodes (j - 1) s) → x ≡ nodeAt (j - 1) s → v ≡ inclusionRoot H m k g (firstNodes (j - 1) t) → y ≡ nodeAt (j - 1) t →
         below ≡ differ H m k h (firstNodes (j - 1) s) g (firstNodes (j - 1) t) → topmost (string u x) (string v y) below ≡ differ H m n h (firstNodes j s) g (firstNodes j t)
-    met-low l pu px pv py pb =
-        rw (pu, px, pv, py, pb, differ-low H m n h (firstNodes j s) g (firstNodes j t) more (omega arith), init-first j s some, last-first j s some, init-first j t some, last-first j t some, cut)
+    difference-low l pu px pv py pb =
+        rw (pu, px, pv, py, pb, differ-low H m n h (firstNodes j s) g (firstNodes j t) more (omega arith), init-first j s some, last-first j s some, init-first j t some, last-first j t some, at-split)
 
-    met-high : k ≤ m → x ≡ nodeAt (j - 1) s → u ≡ inclusionRoot H (m - k) (n - k) h (firstNodes (j - 1) s) → y ≡ nodeAt (j - 1) t → v ≡ inclusionRoot H (m - k) (n - k) g (firstNodes (j - 1) t) →
+    difference-high : k ≤ m → x ≡ nodeAt (j - 1) s → u ≡ inclusionRoot H (m - k) (n - k) h (firstNodes (j - 1) s) → y ≡ nodeAt (j - 1) t → v ≡ inclusionRoot H (m - k) (n - k) g (firstNodes (j - 1) t) →
         below ≡ differ H (m - k) (n - k) h (firstNodes (j - 1) s) g (firstNodes (j - 1) t) → topmost (string x u) (string y v) below ≡ differ H m n h (firstNodes j s) g (firstNodes j t)
-    met-high l px pu py pv pb =
-        rw (pu, px, pv, py, pb, differ-high H m n h (firstNodes j s) g (firstNodes j t) more (omega arith), init-first j s some, last-first j s some, init-first j t some, last-first j t some, cut)
+    difference-high l px pu py pv pb =
+        rw (pu, px, pv, py, pb, differ-high H m n h (firstNodes j s) g (firstNodes j t) more (omega arith), init-first j s some, last-first j s some, init-first j t some, last-first j t some, at-split)
 
-    -- both roots, and what was met
+    -- both roots, and what differs
     module _ {p q : List ℕ} {d : Difference} where
       pub level-low : m < k → x ≡ nodeAt (j - 1) s → y ≡ nodeAt (j - 1) t → (u ≡ inclusionRoot H m k h (firstNodes (j - 1) s)) × ((v ≡ inclusionRoot H m k g (firstNodes (j - 1) t)) × (below ≡ differ H m k h (firstNodes (j - 1) s) g (firstNodes (j - 1) t))) →
           (p ≡ H (string u x)) × (q ≡ H (string v y)) → d ≡ topmost (string u x) (string v y) below →
           (p ≡ inclusionRoot H m n h (firstNodes j s)) × ((q ≡ inclusionRoot H m n g (firstNodes j t)) × (d ≡ differ H m n h (firstNodes j s) g (firstNodes j t)))
       level-low l px py b e f =
-          (included-low H m n k h j s some more cut (e .0) l (b .0) px, (included-low H m n k g j t some more cut (e .1) l (b .1 .0) py, f ∙ met-low l (b .0) px (b .1 .0) py (b .1 .1)))
+          (included-low H m n k h j s some more at-split (e .0) l (b .0) px, (included-low H m n k g j t some more at-split (e .1) l (b .1 .0) py, f ∙ difference-low l (b .0) px (b .1 .0) py (b .1 .1)))
 
       pub level-high : k ≤ m → x ≡ nodeAt (j - 1) s → y ≡ nodeAt (j - 1) t → (u ≡ inclusionRoot H (m - k) (n - k) h (firstNodes (j - 1) s)) × ((v ≡ inclusionRoot H (m - k) (n - k) g (firstNodes (j - 1) t)) × (below ≡ differ H (m - k) (n - k) h (firstNodes (j - 1) s) g (firstNodes (j - 1) t))) →
           (p ≡ H (string x u)) × (q ≡ H (string y v)) → d ≡ topmost (string x u) (string y v) below →
           (p ≡ inclusionRoot H m n h (firstNodes j s)) × ((q ≡ inclusionRoot H m n g (firstNodes j t)) × (d ≡ differ H m n h (firstNodes j s) g (firstNodes j t)))
       level-high l px py b e f =
-          (included-high H m n k h j s some more cut (e .0) l px (b .0), (included-high H m n k g j t some more cut (e .1) l py (b .1 .0), f ∙ met-high l px (b .0) py (b .1 .0) (b .1 .1)))
+          (included-high H m n k h j s some more at-split (e .0) l px (b .0), (included-high H m n k g j t some more at-split (e .1) l py (b .1 .0), f ∙ difference-high l px (b .0) py (b .1 .0) (b .1 .1)))
 
   -- carrying: i nodes of the old path in s, and j of the consistency path in t
   module _ (x m n k : ℕ) (h f : List ℕ) (i j : ℕ) (s t : List ℕ) (z : 0 < m) where
@@ -74,9 +74,9 @@ module _ (H : List ℕ → List ℕ) where
         let o : j - j ≡ 0 = omega arith in
         rw o (append-nil (firstNodes i s) ∙ sym (forward-all H m n x h (firstNodes i s) f (firstNodes j t) z e))
 
-    module _ (lt : m < n) (cut : k ≡ split n) (some : 0 < j) where
+    module _ (lt : m < n) (at-split : k ≡ split n) (some : 0 < j) where
       pub walked-low : {d : Difference} → m ≤ k → d ≡ conflict H m k x h (firstNodes i s) f (firstNodes (j - 1) t) → d ≡ conflict H m n x h (firstNodes i s) f (firstNodes j t)
-      walked-low l p = p ∙ rw (conflict-low H m n x h (firstNodes i s) f (firstNodes j t) z lt (omega arith), init-first j t some, cut)
+      walked-low l p = p ∙ rw (conflict-low H m n x h (firstNodes i s) f (firstNodes j t) z lt (omega arith), init-first j t some, at-split)
 
       -- one node more of the consistency path
       longer : (low hashed : ℕ) (w : List ℕ) (high : ℕ) → high < j → pathFrom low hashed w high s t j ≡ pathFrom low hashed w high s t (j - 1) ++ (nodeAt (j - 1) t ∷ [])
@@ -91,28 +91,28 @@ module _ (H : List ℕ → List ℕ) where
       pub path-low : (low hashed : ℕ) (w : List ℕ) (high : ℕ) → high < j → m ≤ k → pathFrom low hashed w high s t (j - 1) ≡ forward H m k x (firstNodes i s) f (firstNodes (j - 1) t) →
           pathFrom low hashed w high s t j ≡ forward H m n x (firstNodes i s) f (firstNodes j t)
       path-low low hashed w high b l p =
-          longer low hashed w high b ∙ rw (p, forward-low H m n x h (firstNodes i s) f (firstNodes j t) z lt (omega arith), init-first j t some, last-first j t some, cut)
+          longer low hashed w high b ∙ rw (p, forward-low H m n x h (firstNodes i s) f (firstNodes j t) z lt (omega arith), init-first j t some, last-first j t some, at-split)
 
       module _ (hi : k < m) (side : 0 < i) {y a c o : List ℕ} where
         pub walked-here : {d below : Difference} → x < k → d ≡ topmost (string y a) (string c o) below → below ≡ alike → y ≡ inclusionRoot H x k h (firstNodes (i - 1) s) → a ≡ nodeAt (i - 1) s → c ≡ nodeAt (j - 1) t →
             o ≡ oldRoot H (m - k) (n - k) false f (firstNodes (j - 1) t) → d ≡ conflict H m n x h (firstNodes i s) f (firstNodes j t)
         walked-here l p pb py pa pc po =
-            p ∙ rw (pb, py, pa, pc, po, conflict-here H m n x h (firstNodes i s) f (firstNodes j t) z lt (omega arith) (omega arith), init-first i s side, last-first i s side, init-first j t some, last-first j t some, cut)
+            p ∙ rw (pb, py, pa, pc, po, conflict-here H m n x h (firstNodes i s) f (firstNodes j t) z lt (omega arith) (omega arith), init-first i s side, last-first i s side, init-first j t some, last-first j t some, at-split)
 
         pub walked-beyond : {d below : Difference} → k ≤ x → d ≡ topmost (string a y) (string c o) below → a ≡ nodeAt (i - 1) s → y ≡ inclusionRoot H (x - k) (m - k) h (firstNodes (i - 1) s) → c ≡ nodeAt (j - 1) t →
             o ≡ oldRoot H (m - k) (n - k) false f (firstNodes (j - 1) t) → below ≡ conflict H (m - k) (n - k) (x - k) h (firstNodes (i - 1) s) f (firstNodes (j - 1) t) →
             d ≡ conflict H m n x h (firstNodes i s) f (firstNodes j t)
         walked-beyond l p pa py pc po pb =
-            p ∙ rw (py, pa, pc, po, pb, conflict-beyond H m n x h (firstNodes i s) f (firstNodes j t) z lt (omega arith) (omega arith), init-first i s side, last-first i s side, init-first j t some, last-first j t some, cut)
+            p ∙ rw (py, pa, pc, po, pb, conflict-beyond H m n x h (firstNodes i s) f (firstNodes j t) z lt (omega arith) (omega arith), init-first i s side, last-first i s side, init-first j t some, last-first j t some, at-split)
 
       pub path-here : (w : List ℕ) → k < m → 0 < i → x < k → length w ≡ 32 → w ≡ newRoot H (m - k) (n - k) false f (firstNodes (j - 1) t) → pathFrom (i - 1) 1 w j s t j ≡ forward H m n x (firstNodes i s) f (firstNodes j t)
       unfolding pathFrom firstNodes
       path-here w hi side l len pw =
           let o : j - j ≡ 0 = omega arith in
           let e : take 32 w ≡ w = take-all 32 w (omega arith) in
-          rw (o, e) (ap (λ (v : List ℕ). firstNodes (i - 1) s ++ (v ∷ [])) pw ∙ rw (forward-here H m n x h (firstNodes i s) f (firstNodes j t) z lt (omega arith) (omega arith), init-first i s side, init-first j t some, cut))
+          rw (o, e) (ap (λ (v : List ℕ). firstNodes (i - 1) s ++ (v ∷ [])) pw ∙ rw (forward-here H m n x h (firstNodes i s) f (firstNodes j t) z lt (omega arith) (omega arith), init-first i s side, init-first j t some, at-split))
 
       pub path-beyond : (low hashed : ℕ) (w : List ℕ) (high : ℕ) → high < j → k < m → 0 < i → k ≤ x → pathFrom low hashed w high s t (j - 1) ≡ forward H (m - k) (n - k) (x - k) (firstNodes (i - 1) s) f (firstNodes (j - 1) t) →
           pathFrom low hashed w high s t j ≡ forward H m n x (firstNodes i s) f (firstNodes j t)
       path-beyond low hashed w high b hi side l p =
-          longer low hashed w high b ∙ rw (p, forward-beyond H m n x h (firstNodes i s) f (firstNodes j t) z lt (omega arith) (omega arith), init-first i s side, init-first j t some, last-first j t some, cut)
+          longer low hashed w high b ∙ rw (p, forward-beyond H m n x h (firstNodes i s) f (firstNodes j t) z lt (omega arith) (omega arith), init-first i s side, init-first j t some, last-first j t some, at-split)

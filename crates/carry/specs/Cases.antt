@@ -1,5 +1,5 @@
 -- The starred cases of document 01 as one table with one statement, at any hash and for any seven leaf hashes; of the verdicts and of
--- carrying itself where the hash and the leaf hashes have 32 bytes.
+-- carrying itself where the hash and the leaf hashes have 32 bytes. The tree of seven leaves is drawn in the crate tree, specs/Tree.antt.
 -- Assumes nothing: these are statements.
 use mathlib.Core.Path.{_≡_}
 use mathlib.Core.List.{List, [], _∷_}
@@ -8,14 +8,15 @@ use lib.ListN.{length, take, getD}
 use Rattle.tree.specs.Tree.{node, root, path, consistency}
 use Rattle.tree.specs.Joined.{joined}
 use Rattle.tree.specs.Verdict.{inclusionVerdict, consistencyVerdict}
+use Rattle.carry.specs.Limits.{pairBytes}
 use Rattle.carry.specs.Strings.{alike}
 use Rattle.carry.specs.Forward.{carried, conflict, forward, carry}
 
 -- a row: a path at 7; a consistency path to 7; or the path of a place at a first size, and what it becomes at 7
-pub data Row : Type 0 where
-  path-at : ℕ → List (List ℕ) → Row
-  consistency-from : ℕ → List (List ℕ) → Row
-  carried-from : ℕ → ℕ → List (List ℕ) → List (List ℕ) → Row
+pub data PaperCase : Type 0 where
+  path-at : ℕ → List (List ℕ) → PaperCase
+  consistency-from : ℕ → List (List ℕ) → PaperCase
+  carried-from : ℕ → ℕ → List (List ℕ) → List (List ℕ) → PaperCase
 
 abbrev pub Every : {A : Type 0} → (A → Type 0) → List A → Type 0
 Every P [] = Unit {0}
@@ -26,14 +27,14 @@ pub record CarriedTo (H : List ℕ → List ℕ) (leaves : List (List ℕ)) (m x
   pub inclusion : inclusionVerdict H (getD leaves x []) x m (root H (take m leaves)) (joined p) ≡ 0
   pub consistent : consistencyVerdict H m 7 (root H (take m leaves)) (root H leaves) (joined (consistency H m leaves)) ≡ 0
   pub carries :
-      (room pair : ℕ) → length (joined r) ≤ room → 130 ≤ pair →
+      (room pair : ℕ) → length (joined r) ≤ room → pairBytes ≤ pair →
       carry H (getD leaves x []) x m 7 (root H (take m leaves)) (root H leaves) (joined p) (joined (consistency H m leaves)) room pair ≡ carried (joined r)
 
 -- what a row says of the leaf hashes
-abbrev pub Says : (List ℕ → List ℕ) → List (List ℕ) → Row → Type 0
-Says H leaves (path-at m p) = path H m leaves ≡ p
-Says H leaves (consistency-from m p) = consistency H m leaves ≡ p
-Says H leaves (carried-from m x p r) =
+abbrev pub CaseSays : (List ℕ → List ℕ) → List (List ℕ) → PaperCase → Type 0
+CaseSays H leaves (path-at m p) = path H m leaves ≡ p
+CaseSays H leaves (consistency-from m p) = consistency H m leaves ≡ p
+CaseSays H leaves (carried-from m x p r) =
     (path H x (take m leaves) ≡ p)
     × (conflict H m 7 x (getD leaves x []) p (root H (take m leaves)) (consistency H m leaves) ≡ alike)
     × (forward H m 7 x p (root H (take m leaves)) (consistency H m leaves) ≡ r)
@@ -43,7 +44,7 @@ module _ (H : List ℕ → List ℕ) (a b c d e f j : List ℕ) where
   abbrev pub leaves : List (List ℕ)
   leaves = a ∷ b ∷ c ∷ d ∷ e ∷ f ∷ j ∷ []
 
-  -- the nodes by their names in the paper
+  -- the nodes by their names in that drawing
   abbrev pub g : List ℕ
   g = node H a b
 
@@ -59,7 +60,7 @@ module _ (H : List ℕ → List ℕ) (a b c d e f j : List ℕ) where
   abbrev pub l : List ℕ
   l = node H i j
 
-  abbrev pub table : List Row
+  abbrev pub table : List PaperCase
   table =
       path-at 0 (b ∷ h ∷ l ∷ []) ∷
       path-at 3 (c ∷ g ∷ l ∷ []) ∷
@@ -74,4 +75,4 @@ module _ (H : List ℕ → List ℕ) (a b c d e f j : List ℕ) where
       []
 
 abbrev pub Starred : Type 0
-Starred = (H : List ℕ → List ℕ) (a b c d e f j : List ℕ) → Every (Says H (leaves H a b c d e f j)) (table H a b c d e f j)
+Starred = (H : List ℕ → List ℕ) (a b c d e f j : List ℕ) → Every (CaseSays H (leaves H a b c d e f j)) (table H a b c d e f j)

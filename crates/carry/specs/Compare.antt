@@ -3,13 +3,14 @@
 use mathlib.Core.Bool.{cond}
 use mathlib.Core.List.{List, _++_}
 use Prim.Native.Nat.{ℕ, _-_}
-use lib.Dec.{ltb, eqb}
+use lib.Dec.{ltb}
 use Rattle.tree.specs.Split.{Shape, one, fork, size, shape}
 use Rattle.tree.specs.Yield.{init, last, inclusionRootOf}
 use Rattle.tree.specs.Joined.{nodes}
-use Rattle.tree.specs.Verdict.{inclusionVerdict}
-use Rattle.octets.specs.Bytes.{over}
-use Rattle.octets.specs.Answer.{Answer, done}
+use Rattle.tree.specs.Verdict.{unless, inclusionVerdict}
+use Rattle.tree.specs.Build.{over}
+use Rattle.sha256.specs.Told.{Told, done}
+use Rattle.carry.specs.Limits.{pairBytes}
 use Rattle.carry.specs.declared.compare.Compared.{Compared}
 use Rattle.carry.specs.declared.compare.Compared.the-variants.{Same, Collision, Refused}
 use Rattle.carry.specs.Strings.{string, Difference, alike, apart, topmost}
@@ -26,10 +27,10 @@ pub data Likeness : Type 0 where
   ofStrings : Likeness
 
 -- what it tells
-unfoldable pub report : Comparison → Answer Likeness
-report (refused n) = Answer.refused n
-report equal = done same
-report (collision s t) = done ofStrings
+unfoldable pub compareReport : Comparison → Told Likeness
+compareReport (refused n) = Told.refused n
+compareReport equal = done same
+compareReport (collision s t) = done ofStrings
 
 -- what each case of the code's answer tells
 abbrev pub comparing : Compared → Answer Likeness
@@ -38,14 +39,10 @@ comparing Same = done same
 comparing Collision = done ofStrings
 
 -- the pair buffer after it: the first proof's string first, and the bytes past the two stay
-unfoldable pub pairAfter : Comparison → List ℕ → List ℕ
-pairAfter (refused n) b = b
-pairAfter equal b = b
-pairAfter (collision s t) b = over (s ++ t) b
-
--- a verdict's number comes before what follows it
-unfoldable pub unless : ℕ → Comparison → Comparison
-unless verdict then = cond (eqb verdict 0) then (refused verdict)
+unfoldable pub pairCompared : Comparison → List ℕ → List ℕ
+pairCompared (refused n) b = b
+pairCompared equal b = b
+pairCompared (collision s t) b = over (s ++ t) b
 
 unfoldable pub found : Difference → Comparison
 found alike = equal
@@ -58,7 +55,8 @@ module _ (H : List ℕ → List ℕ) where
   differOf (fork a b) m h p g q =
       cond (ltb m (size a))
       (topmost (string (inclusionRootOf H a m h (init p)) (last p)) (string (inclusionRootOf H a m g (init q)) (last q)) (differOf a m h (init p) g (init q)))
-      (topmost (string (last p) (inclusionRootOf H b (m - size a) h (init p))) (string (last q) (inclusionRootOf H b (m - size a) g (init q))) (differOf b (m - size a) h (init p) g (init q)))
+      (topmost (string (last p) (inclusionRootOf H b (m - size a) h (init p))) (string (last q) (inclusionRootOf H b (m - size a) g (init q)))
+      (differOf b (m - size a) h (init p) g (init q)))
 
   unfoldable pub differ : ℕ → ℕ → List ℕ → List (List ℕ) → List ℕ → List (List ℕ) → Difference
   differ m n h p g q = differOf (shape n) m h p g q
@@ -66,7 +64,7 @@ module _ (H : List ℕ → List ℕ) where
   -- two proofs, with a pair buffer of `pair` bytes
   unfoldable pub compare : ℕ → ℕ → List ℕ → List ℕ → List ℕ → List ℕ → List ℕ → ℕ → Comparison
   compare place size root leaf₁ path₁ leaf₂ path₂ pair =
-      unless (inclusionVerdict H leaf₁ place size root path₁)
-      (unless (inclusionVerdict H leaf₂ place size root path₂)
-      (cond (ltb pair 130) (refused 9)
+      unless refused (inclusionVerdict H leaf₁ place size root path₁)
+      (unless refused (inclusionVerdict H leaf₂ place size root path₂)
+      (cond (ltb pair pairBytes) (refused 9)
       (found (differ place size leaf₁ (nodes path₁) leaf₂ (nodes path₂)))))

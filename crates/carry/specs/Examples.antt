@@ -7,6 +7,7 @@ use Prim.Native.Nat.{ℕ, _+_, _-_, _*_, _%_}
 use lib.ListN.{length, getD, replicate}
 use Rattle.octets.specs.Answer.{done}
 use Rattle.tree.specs.Joined.{joined}
+use Rattle.carry.specs.Limits.{pairBytes}
 use Rattle.carry.specs.Strings.{string}
 use Rattle.carry.specs.Forward as forward
 use Rattle.carry.specs.Compare as compare
@@ -31,7 +32,7 @@ abbrev pub out : List ℕ
 out = replicate 160 7
 
 abbrev pub pair : ℕ → List ℕ
-pair more = replicate (130 + more) 9
+pair more = replicate (pairBytes + more) 9
 
 abbrev pub child : ℕ × ℕ → List ℕ
 child c = string (hash (c .0)) (hash (c .1))
@@ -41,11 +42,11 @@ written s t more = child s ++ (child t ++ replicate more 9)
 
 -- a row: the hash; leaf hash, place, both sizes, both roots, path and proof; how many bytes the pair buffer has past 130; and the new path, or the
 -- children of both strings. Of comparing: the hash; place, size and root; leaf hash and path of both proofs, or of one that is compared to itself
-pub data Row : Type 0 where
-  carries : (List ℕ → List ℕ) → ℕ → ℕ → ℕ → ℕ → ℕ → ℕ → List ℕ → List ℕ → ℕ → List ℕ → Row
-  collides : (List ℕ → List ℕ) → ℕ → ℕ → ℕ → ℕ → ℕ → ℕ → List ℕ → List ℕ → ℕ → ℕ × ℕ → ℕ × ℕ → Row
-  agrees : (List ℕ → List ℕ) → ℕ → ℕ → ℕ → ℕ → List ℕ → ℕ → Row
-  differs : (List ℕ → List ℕ) → ℕ → ℕ → ℕ → ℕ → List ℕ → ℕ → List ℕ → ℕ → ℕ × ℕ → ℕ × ℕ → Row
+pub data Example : Type 0 where
+  carries : (List ℕ → List ℕ) → ℕ → ℕ → ℕ → ℕ → ℕ → ℕ → List ℕ → List ℕ → ℕ → List ℕ → Example
+  collides : (List ℕ → List ℕ) → ℕ → ℕ → ℕ → ℕ → ℕ → ℕ → List ℕ → List ℕ → ℕ → ℕ × ℕ → ℕ × ℕ → Example
+  agrees : (List ℕ → List ℕ) → ℕ → ℕ → ℕ → ℕ → List ℕ → ℕ → Example
+  differs : (List ℕ → List ℕ) → ℕ → ℕ → ℕ → ℕ → List ℕ → ℕ → List ℕ → ℕ → ℕ × ℕ → ℕ × ℕ → Example
 
 abbrev pub carryOf : (List ℕ → List ℕ) → ℕ → ℕ → ℕ → ℕ → ℕ → ℕ → List ℕ → List ℕ → ℕ → forward.Forward
 carryOf H leaf place m n old new path proof more =
@@ -56,27 +57,27 @@ compareOf H place size root leaf₁ path₁ leaf₂ path₂ more =
     compare.compare H place size (hash root) (hash leaf₁) (hashes path₁) (hash leaf₂) (hashes path₂) (length (pair more))
 
 -- what a row says: the outcome, what it tells, the path buffer and the pair buffer
-abbrev pub Says : Row → Type 0
-Says (carries H leaf place m n old new path proof more w) =
+abbrev pub ExampleSays : Example → Type 0
+ExampleSays (carries H leaf place m n old new path proof more w) =
     (carryOf H leaf place m n old new path proof more ≡ forward.carried (hashes w))
-    × (forward.report (carryOf H leaf place m n old new path proof more) ≡ done (forward.ofPath (length (hashes w))))
-    × (forward.pathAfter (carryOf H leaf place m n old new path proof more) out ≡ hashes w ++ replicate (160 - length (hashes w)) 7)
-    × (forward.pairAfter (carryOf H leaf place m n old new path proof more) (pair more) ≡ pair more)
-Says (collides H leaf place m n old new path proof more s t) =
+    × (forward.carryReport (carryOf H leaf place m n old new path proof more) ≡ done (forward.ofPath (length (hashes w))))
+    × (forward.pathCarried (carryOf H leaf place m n old new path proof more) out ≡ hashes w ++ replicate (160 - length (hashes w)) 7)
+    × (forward.pairCarried (carryOf H leaf place m n old new path proof more) (pair more) ≡ pair more)
+ExampleSays (collides H leaf place m n old new path proof more s t) =
     (carryOf H leaf place m n old new path proof more ≡ forward.collision (child s) (child t))
-    × (forward.report (carryOf H leaf place m n old new path proof more) ≡ done forward.ofStrings)
-    × (forward.pathAfter (carryOf H leaf place m n old new path proof more) out ≡ out)
-    × (forward.pairAfter (carryOf H leaf place m n old new path proof more) (pair more) ≡ written s t more)
-Says (agrees H place size root leaf path more) =
+    × (forward.carryReport (carryOf H leaf place m n old new path proof more) ≡ done forward.ofStrings)
+    × (forward.pathCarried (carryOf H leaf place m n old new path proof more) out ≡ out)
+    × (forward.pairCarried (carryOf H leaf place m n old new path proof more) (pair more) ≡ written s t more)
+ExampleSays (agrees H place size root leaf path more) =
     (compareOf H place size root leaf path leaf path more ≡ compare.equal)
-    × (compare.report (compareOf H place size root leaf path leaf path more) ≡ done compare.same)
-    × (compare.pairAfter (compareOf H place size root leaf path leaf path more) (pair more) ≡ pair more)
-Says (differs H place size root leaf₁ path₁ leaf₂ path₂ more s t) =
+    × (compare.compareReport (compareOf H place size root leaf path leaf path more) ≡ done compare.same)
+    × (compare.pairCompared (compareOf H place size root leaf path leaf path more) (pair more) ≡ pair more)
+ExampleSays (differs H place size root leaf₁ path₁ leaf₂ path₂ more s t) =
     (compareOf H place size root leaf₁ path₁ leaf₂ path₂ more ≡ compare.collision (child s) (child t))
-    × (compare.report (compareOf H place size root leaf₁ path₁ leaf₂ path₂ more) ≡ done compare.ofStrings)
-    × (compare.pairAfter (compareOf H place size root leaf₁ path₁ leaf₂ path₂ more) (pair more) ≡ written s t more)
+    × (compare.compareReport (compareOf H place size root leaf₁ path₁ leaf₂ path₂ more) ≡ done compare.ofStrings)
+    × (compare.pairCompared (compareOf H place size root leaf₁ path₁ leaf₂ path₂ more) (pair more) ≡ written s t more)
 
-abbrev pub table : List Row
+abbrev pub table : List Example
 table =
     -- from 7 to 8, place 4: S is the second full subtree, leaves 4 and 5, two levels below the root. At the top
     collides constant 1 4 7 8 0 0 (2 ∷ 3 ∷ 4 ∷ []) (3 ∷ 5 ∷ 0 ∷ 6 ∷ []) 10 (4, 0) (6, 0) ∷
@@ -116,4 +117,4 @@ table =
     []
 
 abbrev pub Collisions : Type 0
-Collisions = Every Says table
+Collisions = Every ExampleSays table

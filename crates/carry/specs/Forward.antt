@@ -10,9 +10,10 @@ use Rattle.tree.specs.Tree.{node}
 use Rattle.tree.specs.Count.{inclusionCount}
 use Rattle.tree.specs.Yield.{init, last, inclusionRootOf, inclusionRoot, consistencyRootOf}
 use Rattle.tree.specs.Joined.{nodes, joined}
-use Rattle.tree.specs.Verdict.{inclusionVerdict, consistencyVerdict}
-use Rattle.octets.specs.Bytes.{over}
-use Rattle.octets.specs.Answer.{Answer, done}
+use Rattle.tree.specs.Verdict.{unless, inclusionVerdict, consistencyVerdict}
+use Rattle.tree.specs.Build.{over}
+use Rattle.sha256.specs.Told.{Told, done}
+use Rattle.carry.specs.Limits.{pairBytes}
 use Rattle.carry.specs.declared.forward.Carried.{Carried}
 use Rattle.carry.specs.declared.forward.Carried.the-variants.{Path, Collision, Refused}
 use Rattle.carry.specs.Strings.{string, Difference, alike, apart, topmost}
@@ -29,10 +30,10 @@ pub data Moved : Type 0 where
   ofStrings : Moved
 
 -- what it tells
-unfoldable pub report : Forward → Answer Moved
-report (refused n) = Answer.refused n
-report (carried w) = done (ofPath (length w))
-report (collision s t) = done ofStrings
+unfoldable pub carryReport : Forward → Told Moved
+carryReport (refused n) = Told.refused n
+carryReport (carried w) = done (ofPath (length w))
+carryReport (collision s t) = done ofStrings
 
 -- what each case of the code's answer tells
 abbrev pub carrying : Carried → Answer Moved
@@ -41,23 +42,19 @@ carrying (Path n) = done (ofPath n)
 carrying Collision = done ofStrings
 
 -- the path buffer and the pair buffer after it: the one that is not the answer's keeps its bytes
-unfoldable pub pathAfter : Forward → List ℕ → List ℕ
-pathAfter (refused n) b = b
-pathAfter (carried w) b = over w b
-pathAfter (collision s t) b = b
+unfoldable pub pathCarried : Forward → List ℕ → List ℕ
+pathCarried (refused n) b = b
+pathCarried (carried w) b = over w b
+pathCarried (collision s t) b = b
 
-unfoldable pub pairAfter : Forward → List ℕ → List ℕ
-pairAfter (refused n) b = b
-pairAfter (carried w) b = b
-pairAfter (collision s t) b = over (s ++ t) b
+unfoldable pub pairCarried : Forward → List ℕ → List ℕ
+pairCarried (refused n) b = b
+pairCarried (carried w) b = b
+pairCarried (collision s t) b = over (s ++ t) b
 
--- a verdict's number comes before what follows it
-unfoldable pub unless : ℕ → Forward → Forward
-unless verdict then = cond (eqb verdict 0) then (refused verdict)
-
-unfoldable pub settled : Difference → List ℕ → Forward
-settled alike w = carried w
-settled (apart s t) w = collision s t
+unfoldable pub forwarded : Difference → List ℕ → Forward
+forwarded alike w = carried w
+forwarded (apart s t) w = collision s t
 
 module _ (H : List ℕ → List ℕ) where
   -- The walk from the top of the new tree to S, the full subtree of the first m leaves that holds the place x. Its nodes p and q are those of
@@ -71,7 +68,8 @@ module _ (H : List ℕ → List ℕ) where
       (cond (leb m (size a)) (conflictOf a m x h p f (init q))
       (cond (ltb x (size a))
       (topmost (string (inclusionRootOf H a x h (init p)) (last p)) (string (last q) (consistencyRootOf H (λ y z. y) b (m - size a) false f (init q))) alike)
-      (topmost (string (last p) (inclusionRoot H (x - size a) (m - size a) h (init p))) (string (last q) (consistencyRootOf H (λ y z. y) b (m - size a) false f (init q)))
+      (topmost (string (last p) (inclusionRoot H (x - size a) (m - size a) h (init p)))
+      (string (last q) (consistencyRootOf H (λ y z. y) b (m - size a) false f (init q)))
       (conflictOf b (m - size a) (x - size a) h (init p) f (init q)))))
 
   unfoldable pub conflict : ℕ → ℕ → ℕ → List ℕ → List (List ℕ) → List ℕ → List (List ℕ) → Difference
@@ -92,8 +90,8 @@ module _ (H : List ℕ → List ℕ) where
   -- an inclusion proof at m and a consistency proof from m to n, into a path buffer of `room` bytes, with a pair buffer of `pair` bytes
   unfoldable pub carry : List ℕ → ℕ → ℕ → ℕ → List ℕ → List ℕ → List ℕ → List ℕ → ℕ → ℕ → Forward
   carry leaf place m n root₁ root₂ path proof room pair =
-      unless (inclusionVerdict H leaf place m root₁ path)
-      (unless (consistencyVerdict H m n root₁ root₂ proof)
+      unless refused (inclusionVerdict H leaf place m root₁ path)
+      (unless refused (consistencyVerdict H m n root₁ root₂ proof)
       (cond (ltb room (32 * inclusionCount place n)) (refused 9)
-      (cond (ltb pair 130) (refused 9)
-      (settled (conflict m n place leaf (nodes path) root₁ (nodes proof)) (joined (forward m n place (nodes path) root₁ (nodes proof)))))))
+      (cond (ltb pair pairBytes) (refused 9)
+      (forwarded (conflict m n place leaf (nodes path) root₁ (nodes proof)) (joined (forward m n place (nodes path) root₁ (nodes proof)))))))

@@ -9,13 +9,13 @@ use Rattle.tree.specs.Limits.{largestSize}
 use Rattle.tree.specs.Count.{inclusionCount, consistencyCount}
 use Rattle.octets.specs.Bytes.{over}
 use Rattle.tree.specs.Joined.{firstNodes, nodesFrom}
-use Rattle.carry.specs.declared.level.Met.{Met}
+use Rattle.carry.specs.declared.level.Recomputed.{Recomputed}
 use Rattle.carry.specs.declared.walk.Walked.{Walked}
 use Rattle.carry.specs.Strings.{string, Difference, alike, apart}
 
--- what two proofs met
-unfoldable pub metAs : Met → Difference
-metAs w = cond (w .apart) (apart (string (w .a .bytes) (w .b .bytes)) (string (w .c .bytes) (w .d .bytes))) alike
+-- the topmost two strings that differ, of what was recomputed of two proofs
+unfoldable pub differenceOf : Recomputed → Difference
+differenceOf w = cond (w .apart) (apart (string (w .a .bytes) (w .b .bytes)) (string (w .c .bytes) (w .d .bytes))) alike
 
 -- a path in three pieces: the first `low` nodes of the old path, the sibling of S if `hashed` is 1, and the nodes of the proof from `high` up to q
 unfoldable pub pathFrom : ℕ → ℕ → List ℕ → ℕ → List ℕ → List ℕ → ℕ → List (List ℕ)

@@ -1,3 +1,4 @@
+pub mod Limits
 pub mod Strings
 pub mod Compare
 pub mod Forward

@@ -4,7 +4,8 @@ use mathlib.Core.Bool.{cond}
 use mathlib.Core.List.{List, _∷_, _++_}
 use Prim.Native.Nat.{ℕ}
 use lib.ListN.{length}
-use Rattle.octets.specs.Bytes.{same}
+use Rattle.tree.specs.Collision.{Collision}
+use Rattle.tree.specs.Joined.{same}
 
 -- 0x01 || left || right
 abbrev pub string : List ℕ → List ℕ → List ℕ
@@ -19,9 +20,8 @@ pub data Difference : Type 0 where
 unfoldable pub topmost : List ℕ → List ℕ → Difference → Difference
 topmost s t below = cond (same s t) below (apart s t)
 
--- what a collision is: two strings of 65 bytes that differ and have one hash
+-- a collision of nodes: both strings have 65 bytes
 pub record Collides (H : List ℕ → List ℕ) (s t : List ℕ) : Type 0 where
   pub first-65 : length s ≡ 65
   pub second-65 : length t ≡ 65
-  pub different : s ≡ t → ⊥
-  pub one-hash : H s ≡ H t
+  pub collision : Collision H s t

@@ -18,7 +18,9 @@ pub(crate) fn fits(
     path: usize,
     proof: usize,
 ) -> bool
-    ensures { λ r. ⌜ (r ≡ true → Fit leaf place m n old new path proof) × (Fit leaf place m n old new path proof → r ≡ true) ⌝ }
+    ensures { λ r. ⌜
+        (let F = Fit leaf place m n old new path proof in
+        (r ≡ true → F) × (F → r ≡ true)) ⌝ }
 {
     if leaf != 32 {
         return false;
@@ -49,7 +51,9 @@ pub(crate) fn fits(
 
 // Whether the roots agree: the old root by the inclusion proof, and both roots by the consistency path.
 pub(crate) fn agree(one: Digest, two: Digest, whole: Digest, old: &[u8], new: &[u8]) -> bool
-    ensures { λ r. ⌜ (r ≡ true → Agree (one .bytes) (two .bytes) (whole .bytes) (now (old .entry)) (now (new .entry))) × (Agree (one .bytes) (two .bytes) (whole .bytes) (now (old .entry)) (now (new .entry)) → r ≡ true) ⌝ }
+    ensures { λ r. ⌜
+        (let A = Agree (one .bytes) (two .bytes) (whole .bytes) (now (old .entry)) (now (new .entry)) in
+        (r ≡ true → A) × (A → r ≡ true)) ⌝ }
 {
     if !equals(one, old) {
         return false;

@@ -5,7 +5,8 @@ ghost use mathlib.Core.Path.{_≡_};
 ghost use mathlib.Core.List.{_++_};
 ghost use Prim.Native.Nat.{_+_, _-_, _*_, _≤_};
 ghost use lib.ListN.{length, take, drop};
-ghost use Rattle.octets.specs.Bytes.{over};
+ghost use Rattle.tree.specs.Build.{over};
+ghost use Rattle.carry.specs.Limits.{pairBytes};
 ghost use Rattle.carry.specs.Strings.{string};
 ghost use Rattle.carry.specs.Inner.{Appends};
 
@@ -23,7 +24,7 @@ fn put_string(a: Digest, b: Digest, out: &mut [u8], at: usize)
 
 // Writes the two strings of the child pairs a, b and c, d at the start of a buffer.
 pub(crate) fn put_pair(a: Digest, b: Digest, c: Digest, d: Digest, out: &mut [u8])
-    requires { ⌜ 130 ≤ length (now out) ⌝ }
+    requires { ⌜ pairBytes ≤ length (now out) ⌝ }
     ensures { λ _. ⌜ now (out .exit) ≡ over (string (a .bytes) (b .bytes) ++ string (c .bytes) (d .bytes)) (now (out .entry)) ⌝ }
 {
     put_string(a, b, out, 0);
@@ -41,9 +42,14 @@ pub(crate) fn put_path(
     high: usize,
     out: &mut [u8],
 ) -> usize
-    requires { ⌜ (32 * low ≤ length (now path)) × (hashed ≤ 1) × (32 * high ≤ length (now proof)) × (32 * low + 32 * hashed + (length (now proof) - 32 * high) ≤ length (now out)) ⌝ }
-    ensures { λ r. ⌜ r ≡ length (take (32 * low) (now (path .entry)) ++ (take (32 * hashed) (sibling .bytes) ++ drop (32 * high) (now (proof .entry)))) ⌝ }
-    ensures { λ _. ⌜ now (out .exit) ≡ over (take (32 * low) (now (path .entry)) ++ (take (32 * hashed) (sibling .bytes) ++ drop (32 * high) (now (proof .entry)))) (now (out .entry)) ⌝ }
+    requires { ⌜
+        (32 * low ≤ length (now path))
+        × (hashed ≤ 1)
+        × (32 * high ≤ length (now proof))
+        × (32 * low + 32 * hashed + (length (now proof) - 32 * high) ≤ length (now out)) ⌝ }
+    ensures { λ r. ⌜
+        (let w = take (32 * low) (now (path .entry)) ++ (take (32 * hashed) (sibling .bytes) ++ drop (32 * high) (now (proof .entry))) in
+        (r ≡ length w) × (now (out .exit) ≡ over w (now (out .entry)))) ⌝ }
 {
     let s = sibling.bytes;
     let p = 32 * low;

@@ -1,11 +1,12 @@
 // Comparing two inclusion proofs for one place, size and root.
 use super::bytes::put_pair;
-use super::level::Met;
+use super::level::Recomputed;
 use super::level::above;
 use super::level::start;
+use super::limits::PAIR;
 use hash::Digest;
 use tree::nodes::node_at;
-use tree::split::cut;
+use tree::split::split_of;
 use tree::verdict::inclusion_verdict;
 ghost use mathlib.Core.Path.{_≡_};
 ghost use Prim.Native.Nat.{_*_, _≤_, _<_};
@@ -14,9 +15,9 @@ ghost use Rattle.hash.specs.Digest.{sha256};
 ghost use Rattle.tree.specs.Count.{inclusionCount};
 ghost use Rattle.tree.specs.Joined.{firstNodes};
 ghost use Rattle.tree.specs.Yield.{inclusionRoot};
-ghost use Rattle.carry.specs.Compare.{comparing, report, pairAfter, differ};
+ghost use Rattle.carry.specs.Compare.{comparing, compareReport, pairCompared, differ};
 ghost use Rattle.carry.specs.Compare as paper;
-ghost use Rattle.carry.specs.Inner.{metAs};
+ghost use Rattle.carry.specs.Inner.{differenceOf};
 
 // What a comparison answers.
 pub enum Compared {
@@ -26,7 +27,7 @@ pub enum Compared {
 }
 
 // Both roots, and the topmost child pairs that differ, by the first `count` nodes of two paths: each node is computed once, bottom up.
-fn meet(
+fn recompute(
     one: Digest,
     two: Digest,
     place: u64,
@@ -34,26 +35,34 @@ fn meet(
     first: &[u8],
     second: &[u8],
     count: usize,
-) -> Met
-    requires { ⌜ (place < size) × (count ≡ inclusionCount place size) × (32 * count ≤ length (now first)) × (32 * count ≤ length (now second)) ⌝ }
-    ensures { λ r. ⌜ r .one .bytes ≡ inclusionRoot sha256 place size (one .bytes) (firstNodes count (now (first .entry))) ⌝ }
-    ensures { λ r. ⌜ r .two .bytes ≡ inclusionRoot sha256 place size (two .bytes) (firstNodes count (now (second .entry))) ⌝ }
-    ensures { λ r. ⌜ metAs r ≡ differ sha256 place size (one .bytes) (firstNodes count (now (first .entry))) (two .bytes) (firstNodes count (now (second .entry))) ⌝ }
+) -> Recomputed
+    requires { ⌜
+        (place < size)
+        × (count ≡ inclusionCount place size)
+        × (32 * count ≤ length (now first))
+        × (32 * count ≤ length (now second)) ⌝ }
+    ensures { λ r. ⌜
+        (let H = sha256 in
+        let p = firstNodes count (now (first .entry)) in
+        let q = firstNodes count (now (second .entry)) in
+        (r .one .bytes ≡ inclusionRoot H place size (one .bytes) p)
+        × ((r .two .bytes ≡ inclusionRoot H place size (two .bytes) q)
+        × (differenceOf r ≡ differ H place size (one .bytes) p (two .bytes) q))) ⌝ }
 {
     if size <= 1 {
         return start(one, two);
     }
-    let k = cut(size);
+    let k = split_of(size);
     let c = count - 1;
     let x = node_at(first, c);
     let y = node_at(second, c);
     if place < k {
-        let low = meet(one, two, place, k, first, second, c);
+        let low = recompute(one, two, place, k, first, second, c);
         let u = low.one;
         let v = low.two;
         return above(u, x, v, y, low);
     }
-    let high = meet(one, two, place - k, size - k, first, second, c);
+    let high = recompute(one, two, place - k, size - k, first, second, c);
     let u = high.one;
     let v = high.two;
     above(x, u, y, v, high)
@@ -71,8 +80,10 @@ pub fn compare(
     path2: &[u8],
     pair: &mut [u8],
 ) -> Compared
-    ensures { λ r. ⌜ comparing r ≡ report (paper.compare sha256 place size (now (root .entry)) (now (leaf1 .entry)) (now (path1 .entry)) (now (leaf2 .entry)) (now (path2 .entry)) (length (now (pair .entry)))) ⌝ }
-    ensures { λ _. ⌜ now (pair .exit) ≡ pairAfter (paper.compare sha256 place size (now (root .entry)) (now (leaf1 .entry)) (now (path1 .entry)) (now (leaf2 .entry)) (now (path2 .entry)) (length (now (pair .entry)))) (now (pair .entry)) ⌝ }
+    ensures { λ r. ⌜
+        (let o = paper.compare sha256 place size (now (root .entry)) (now (leaf1 .entry)) (now (path1 .entry)) (now (leaf2 .entry)) (now (path2 .entry))
+        (length (now (pair .entry))) in
+        (comparing r ≡ compareReport o) × (now (pair .exit) ≡ pairCompared o (now (pair .entry)))) ⌝ }
 {
     let first = inclusion_verdict(leaf1, place, size, root, path1);
     if first != 0 {
@@ -82,11 +93,11 @@ pub fn compare(
     if second != 0 {
         return Compared::Refused(second);
     }
-    if pair.len() < 130 {
+    if pair.len() < PAIR {
         return Compared::Refused(9);
     }
     let count = path1.len() / 32;
-    let met = meet(
+    let recomputed = recompute(
         node_at(leaf1, 0),
         node_at(leaf2, 0),
         place,
@@ -95,11 +106,11 @@ pub fn compare(
         path2,
         count,
     );
-    if met.apart {
-        let a = met.a;
-        let b = met.b;
-        let c = met.c;
-        let d = met.d;
+    if recomputed.apart {
+        let a = recomputed.a;
+        let b = recomputed.b;
+        let c = recomputed.c;
+        let d = recomputed.d;
         put_pair(a, b, c, d, pair);
         return Compared::Collision;
     }

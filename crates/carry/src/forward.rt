@@ -3,6 +3,7 @@ use super::accept::agree;
 use super::accept::fits;
 use super::bytes::put_pair;
 use super::bytes::put_path;
+use super::limits::PAIR;
 use super::walk::walk;
 use tree::nodes::node_at;
 use tree::verdict::consistency_verdict;
@@ -13,7 +14,7 @@ ghost use Rattle.hash.specs.Digest.{sha256};
 ghost use Rattle.tree.specs.Verdict.{inclusionVerdict, consistencyVerdict};
 ghost use Rattle.octets.specs.Answer.{Answer};
 ghost use Rattle.carry.specs.Inner.{either};
-ghost use Rattle.carry.specs.Forward.{carrying, report, pathAfter, pairAfter};
+ghost use Rattle.carry.specs.Forward.{carrying, carryReport, pathCarried, pairCarried};
 ghost use Rattle.carry.specs.Forward as paper;
 
 // What a carrying answers: how many bytes of path it wrote, that it wrote a collision, or the number of its refusal.
@@ -34,7 +35,11 @@ fn refusal(
     path: &[u8],
     proof: &[u8],
 ) -> Carried
-    ensures { λ r. ⌜ carrying r ≡ Answer.refused (either (inclusionVerdict sha256 (now (leaf .entry)) place m (now (old .entry)) (now (path .entry))) (consistencyVerdict sha256 m n (now (old .entry)) (now (new .entry)) (now (proof .entry)))) ⌝ }
+    ensures { λ r. ⌜
+        (let H = sha256 in
+        let inclusion = inclusionVerdict H (now (leaf .entry)) place m (now (old .entry)) (now (path .entry)) in
+        let consistency = consistencyVerdict H m n (now (old .entry)) (now (new .entry)) (now (proof .entry)) in
+        carrying r ≡ Told.refused (either inclusion consistency)) ⌝ }
 {
     let inclusion = inclusion_verdict(leaf, place, m, old, path);
     if inclusion != 0 {
@@ -57,9 +62,12 @@ pub fn carry(
     out: &mut [u8],
     pair: &mut [u8],
 ) -> Carried
-    ensures { λ r. ⌜ carrying r ≡ report (paper.carry sha256 (now (leaf .entry)) place m n (now (old .entry)) (now (new .entry)) (now (path .entry)) (now (proof .entry)) (length (now (out .entry))) (length (now (pair .entry)))) ⌝ }
-    ensures { λ _. ⌜ now (out .exit) ≡ pathAfter (paper.carry sha256 (now (leaf .entry)) place m n (now (old .entry)) (now (new .entry)) (now (path .entry)) (now (proof .entry)) (length (now (out .entry))) (length (now (pair .entry)))) (now (out .entry)) ⌝ }
-    ensures { λ _. ⌜ now (pair .exit) ≡ pairAfter (paper.carry sha256 (now (leaf .entry)) place m n (now (old .entry)) (now (new .entry)) (now (path .entry)) (now (proof .entry)) (length (now (out .entry))) (length (now (pair .entry)))) (now (pair .entry)) ⌝ }
+    ensures { λ r. ⌜
+        (let o = paper.carry sha256 (now (leaf .entry)) place m n (now (old .entry)) (now (new .entry)) (now (path .entry)) (now (proof .entry))
+        (length (now (out .entry))) (length (now (pair .entry))) in
+        (carrying r ≡ carryReport o)
+        × ((now (out .exit) ≡ pathCarried o (now (out .entry)))
+        × (now (pair .exit) ≡ pairCarried o (now (pair .entry))))) ⌝ }
 {
     if !fits(
         leaf.len(),
@@ -87,9 +95,9 @@ pub fn carry(
         proof,
         q,
     );
-    let met = walked.met;
-    let one = met.one;
-    let two = met.two;
+    let recomputed = walked.recomputed;
+    let one = recomputed.one;
+    let two = recomputed.two;
     let whole = walked.new;
     if !agree(one, two, whole, old, new) {
         return refusal(leaf, place, m, n, old, new, path, proof);
@@ -100,14 +108,14 @@ pub fn carry(
     if out.len() / 32 < low + hashed + (q - high) {
         return Carried::Refused(9);
     }
-    if pair.len() < 130 {
+    if pair.len() < PAIR {
         return Carried::Refused(9);
     }
-    if met.apart {
-        let a = met.a;
-        let b = met.b;
-        let c = met.c;
-        let d = met.d;
+    if recomputed.apart {
+        let a = recomputed.a;
+        let b = recomputed.b;
+        let c = recomputed.c;
+        let d = recomputed.d;
         put_pair(a, b, c, d, pair);
         return Carried::Collision;
     }

@@ -5,10 +5,10 @@ ghost use mathlib.Core.Path.{_≡_};
 ghost use Rattle.hash.specs.Digest.{nodeHash};
 ghost use Rattle.octets.specs.Bytes.{same};
 ghost use Rattle.carry.specs.Strings.{string, alike, topmost};
-ghost use Rattle.carry.specs.Inner.{metAs};
+ghost use Rattle.carry.specs.Inner.{differenceOf};
 
 // The roots that two proofs yield; and whether child pairs differ below them, with the topmost two that do: a, b and c, d.
-pub(crate) struct Met {
+pub(crate) struct Recomputed {
     pub one: Digest,
     pub two: Digest,
     pub apart: bool,
@@ -19,11 +19,11 @@ pub(crate) struct Met {
 }
 
 // Nothing differs, and the roots are these.
-pub(crate) fn start(one: Digest, two: Digest) -> Met
+pub(crate) fn start(one: Digest, two: Digest) -> Recomputed
     ensures { λ r. ⌜ (r .one .bytes ≡ one .bytes) × (r .two .bytes ≡ two .bytes) ⌝ }
-    ensures { λ r. ⌜ metAs r ≡ alike ⌝ }
+    ensures { λ r. ⌜ differenceOf r ≡ alike ⌝ }
 {
-    Met {
+    Recomputed {
         one,
         two,
         apart: false,
@@ -46,10 +46,10 @@ fn pairs(a: Digest, b: Digest, c: Digest, d: Digest) -> bool
     equals(b, &y)
 }
 
-// One level up: two child pairs, and what was met below them. Pairs that are the same are hashed once.
-pub(crate) fn above(a: Digest, b: Digest, c: Digest, d: Digest, below: Met) -> Met
+// One level up: two child pairs, and what was recomputed below them. Pairs that are the same are hashed once.
+pub(crate) fn above(a: Digest, b: Digest, c: Digest, d: Digest, below: Recomputed) -> Recomputed
     ensures { λ r. ⌜ (r .one .bytes ≡ nodeHash (a .bytes) (b .bytes)) × (r .two .bytes ≡ nodeHash (c .bytes) (d .bytes)) ⌝ }
-    ensures { λ r. ⌜ metAs r ≡ topmost (string (a .bytes) (b .bytes)) (string (c .bytes) (d .bytes)) (metAs below) ⌝ }
+    ensures { λ r. ⌜ differenceOf r ≡ topmost (string (a .bytes) (b .bytes)) (string (c .bytes) (d .bytes)) (differenceOf below) ⌝ }
 {
     let root = hash::node(a, b);
     if pairs(a, b, c, d) {
@@ -57,7 +57,7 @@ pub(crate) fn above(a: Digest, b: Digest, c: Digest, d: Digest, below: Met) -> M
         let x = below.b;
         let y = below.c;
         let z = below.d;
-        return Met {
+        return Recomputed {
             one: root,
             two: root,
             apart: below.apart,
@@ -67,7 +67,7 @@ pub(crate) fn above(a: Digest, b: Digest, c: Digest, d: Digest, below: Met) -> M
             d: z,
         };
     }
-    Met {
+    Recomputed {
         one: root,
         two: hash::node(c, d),
         apart: true,

@@ -3,6 +3,7 @@
 // crates above may cite.
 pub mod compare; // two inclusion proofs for one place, size and root
 pub mod forward; // an inclusion proof, by a consistency proof to a larger size
+pub mod limits; // how long a pair buffer must be
 mod accept; // when both verdicts accept
 mod bytes; // strings and paths, written into lent buffers
 mod level; // one level of two proofs

@@ -1,10 +1,10 @@
 // The way from the top of the new tree down to the full subtree of the old one that holds a place.
-use super::level::Met;
+use super::level::Recomputed;
 use super::level::above;
 use super::level::start;
 use hash::Digest;
 use tree::nodes::node_at;
-use tree::split::cut;
+use tree::split::split_of;
 use tree::yields::yielded_root;
 use tree::yields::yielded_roots;
 ghost use mathlib.Core.Path.{_≡_};
@@ -15,12 +15,12 @@ ghost use Rattle.tree.specs.Count.{inclusionCount, subproofCount};
 ghost use Rattle.tree.specs.Joined.{firstNodes};
 ghost use Rattle.tree.specs.Yield.{inclusionRoot, oldRoot, newRoot};
 ghost use Rattle.carry.specs.Forward.{conflict, forward};
-ghost use Rattle.carry.specs.Inner.{metAs, pathAs};
+ghost use Rattle.carry.specs.Inner.{differenceOf, pathAs};
 
-// What the inclusion proof and the consistency path met, by the old root that each yields; the new root; and the new path: `low` nodes of
+// What was recomputed of the inclusion proof and of the consistency path, up to the old root that each yields; the new root; and the new path: `low` nodes of
 // the old one, the sibling if `hashed` is 1, and the nodes of the consistency path from `high` on.
 pub(crate) struct Walked {
-    pub met: Met,
+    pub recomputed: Recomputed,
     pub new: Digest,
     pub low: usize,
     pub hashed: usize,
@@ -41,13 +41,23 @@ pub(crate) fn walk(
     proof: &[u8],
     q: usize,
 ) -> Walked
-    requires { ⌜ (x < m) × (m ≤ n) × (p ≡ inclusionCount x m) × (32 * p ≤ length (now path)) × (q ≡ subproofCount m n known) × (32 * q ≤ length (now proof)) ⌝ }
-    ensures { λ r. ⌜ r .met .one .bytes ≡ inclusionRoot sha256 x m (leaf .bytes) (firstNodes p (now (path .entry))) ⌝ }
-    ensures { λ r. ⌜ r .met .two .bytes ≡ oldRoot sha256 m n known (first .bytes) (firstNodes q (now (proof .entry))) ⌝ }
-    ensures { λ r. ⌜ r .new .bytes ≡ newRoot sha256 m n known (first .bytes) (firstNodes q (now (proof .entry))) ⌝ }
-    ensures { λ r. ⌜ metAs (r .met) ≡ conflict sha256 m n x (leaf .bytes) (firstNodes p (now (path .entry))) (first .bytes) (firstNodes q (now (proof .entry))) ⌝ }
-    ensures { λ r. ⌜ pathAs r (now (path .entry)) (now (proof .entry)) q ≡ forward sha256 m n x (firstNodes p (now (path .entry))) (first .bytes) (firstNodes q (now (proof .entry))) ⌝ }
-    ensures { λ r. ⌜ (r .low ≤ p) × (r .hashed ≤ 1) × (r .high ≤ q) ⌝ }
+    requires { ⌜
+        (x < m)
+        × (m ≤ n)
+        × (p ≡ inclusionCount x m)
+        × (32 * p ≤ length (now path))
+        × (q ≡ subproofCount m n known)
+        × (32 * q ≤ length (now proof)) ⌝ }
+    ensures { λ r. ⌜
+        (let H = sha256 in
+        let ps = firstNodes p (now (path .entry)) in
+        let qs = firstNodes q (now (proof .entry)) in
+        (r .recomputed .one .bytes ≡ inclusionRoot H x m (leaf .bytes) ps)
+        × ((r .recomputed .two .bytes ≡ oldRoot H m n known (first .bytes) qs)
+        × ((r .new .bytes ≡ newRoot H m n known (first .bytes) qs)
+        × ((differenceOf (r .recomputed) ≡ conflict H m n x (leaf .bytes) ps (first .bytes) qs)
+        × ((pathAs r (now (path .entry)) (now (proof .entry)) q ≡ forward H m n x ps (first .bytes) qs)
+        × ((r .low ≤ p) × (r .hashed ≤ 1) × (r .high ≤ q))))))) ⌝ }
 {
     if m == n {
         let y = yielded_root(leaf, x, m, path);
@@ -55,7 +65,7 @@ pub(crate) fn walk(
         let old = whole.old;
         let new = whole.new;
         return Walked {
-            met: start(y, old),
+            recomputed: start(y, old),
             new,
             low: p,
             hashed: 0,
@@ -63,16 +73,16 @@ pub(crate) fn walk(
             high: q,
         };
     }
-    let k = cut(n);
+    let k = split_of(n);
     let j = q - 1;
     let top = node_at(proof, j);
     if m <= k {
         let below = walk(leaf, x, m, k, known, path, p, first, proof, j);
-        let met = below.met;
+        let recomputed = below.recomputed;
         let new = below.new;
         let sibling = below.sibling;
         return Walked {
-            met,
+            recomputed,
             new: hash::node(new, top),
             low: below.low,
             hashed: below.hashed,
@@ -88,7 +98,7 @@ pub(crate) fn walk(
         let old = rest.old;
         let new = rest.new;
         return Walked {
-            met: above(y, side, top, old, start(y, old)),
+            recomputed: above(y, side, top, old, start(y, old)),
             new: hash::node(top, new),
             low: i,
             hashed: 1,
@@ -97,13 +107,13 @@ pub(crate) fn walk(
         };
     }
     let below = walk(leaf, x - k, m - k, n - k, false, path, i, first, proof, j);
-    let met = below.met;
-    let y = met.one;
-    let old = met.two;
+    let recomputed = below.recomputed;
+    let y = recomputed.one;
+    let old = recomputed.two;
     let new = below.new;
     let sibling = below.sibling;
     Walked {
-        met: above(side, y, top, old, met),
+        recomputed: above(side, y, top, old, recomputed),
         new: hash::node(top, new),
         low: below.low,
         hashed: below.hashed,

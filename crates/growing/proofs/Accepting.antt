@@ -15,7 +15,7 @@ use Rattle.octets.proofs.Order.{lt-or-ge}
 use Rattle.tree.proofs.Building.{unfit-part, unfit-rest}
 use Rattle.growing.specs.declared.Growing.{Growing}
 use Rattle.growing.specs.Hashes.{withLeaves}
-use Rattle.growing.specs.Calls.{Call, ofPage, ofLeaves, roomNumber, callNumber, answered}
+use Rattle.growing.specs.Calls.{Call, ofPage, ofLeaves, roomNumber, callNumber, grownBy}
 use Rattle.growing.specs.Claims.{AcceptsAll}
 use Rattle.growing.proofs.Adding.{given, room-fits, room-left, leaves-10, leaves-rest, accepted, brought-leaves, with-none}
 
@@ -55,8 +55,8 @@ leaves-good : (count : ℕ) (leaves : List ℕ) → length leaves % 32 ≡ 0 →
 leaves-good count leaves z h r = leaves-rest count leaves (fits leaves z h) ∙ room-left count (length leaves / 32) r
 
 module _ (H : List ℕ → List ℕ) where
-  number-of : (g : Growing) (c : Call) → answered H g c .number ≡ callNumber (g .count) c
-  unfolding answered
+  number-of : (g : Growing) (c : Call) → grownBy H g c .number ≡ callNumber (g .count) c
+  unfolding grownBy
   number-of g c = refl
 
   pub accepts-all : AcceptsAll H
@@ -69,7 +69,7 @@ module _ (H : List ℕ → List ℕ) where
     page-first = λ page h. number-of g (ofPage page) ∙ page-long (g .count) page h;
     joined-first = λ leaves h. number-of g (ofLeaves leaves) ∙ leaves-10 (g .count) leaves (unfit-part leaves h);
     many-first = λ leaves h. number-of g (ofLeaves leaves) ∙ leaves-10 (g .count) leaves (many leaves h);
-    none = λ h.
+    no-leaves = λ h.
         accepted H g (ofLeaves []) (leaves-good (g .count) [] (omega arith) (omega arith) (omega arith))
         ∙ ap (λ (t : Growing). record { number = 0; after = t }) (ap (withLeaves H g) (brought-leaves H []) ∙ with-none H g []);
   }

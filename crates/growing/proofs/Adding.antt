@@ -19,7 +19,7 @@ use Rattle.tree.proofs.Joining.{first-snoc}
 use Rattle.growing.specs.declared.Growing.{Growing}
 use Rattle.growing.specs.declared.Grown.{Grown}
 use Rattle.growing.specs.Hashes.{digest, withLeaf, withLeaves}
-use Rattle.growing.specs.Calls.{Call, ofPage, ofLeaves, roomNumber, callNumber, brought, answered}
+use Rattle.growing.specs.Calls.{Call, ofPage, ofLeaves, roomNumber, callNumber, brought, grownBy}
 
 -- a number of a refusal that is not 0
 module _ (n : ℕ) where
@@ -75,18 +75,18 @@ grown-of : (r : Grown) (n : ℕ) (g : Growing) → r .number ≡ n → r .after 
 grown-of r n g p q = ap₂ (λ (number : ℕ) (after : Growing). record { number = number; after = after }) p q
 
 module _ (H : List ℕ → List ℕ) where
-  pub refused : (g : Growing) (c : Call) (n : ℕ) → callNumber (g .count) c ≡ suc n → answered H g c ≡ record { number = suc n; after = g }
-  unfolding answered
+  pub refused : (g : Growing) (c : Call) (n : ℕ) → callNumber (g .count) c ≡ suc n → grownBy H g c ≡ record { number = suc n; after = g }
+  unfolding grownBy
   refused g c n e = rw (e, ne-eqb (suc n) 0 (λ z. omega arith))
 
-  pub refused-by : (r : Grown) (g : Growing) (c : Call) (n : ℕ) → callNumber (g .count) c ≡ suc n → (r .number ≡ suc n) × (r .after ≡ g) → r ≡ answered H g c
+  pub refused-by : (r : Grown) (g : Growing) (c : Call) (n : ℕ) → callNumber (g .count) c ≡ suc n → (r .number ≡ suc n) × (r .after ≡ g) → r ≡ grownBy H g c
   refused-by r g c n e p = grown-of r (suc n) g (p .0) (p .1) ∙ sym (refused g c n e)
 
-  pub accepted : (g : Growing) (c : Call) → callNumber (g .count) c ≡ 0 → answered H g c ≡ record { number = 0; after = withLeaves H g (brought H c) }
-  unfolding answered
+  pub accepted : (g : Growing) (c : Call) → callNumber (g .count) c ≡ 0 → grownBy H g c ≡ record { number = 0; after = withLeaves H g (brought H c) }
+  unfolding grownBy
   accepted g c e = rw e
 
-  pub accepted-by : (t g : Growing) (c : Call) → callNumber (g .count) c ≡ 0 → t ≡ withLeaves H g (brought H c) → record { number = 0; after = t } ≡ answered H g c
+  pub accepted-by : (t g : Growing) (c : Call) → callNumber (g .count) c ≡ 0 → t ≡ withLeaves H g (brought H c) → record { number = 0; after = t } ≡ grownBy H g c
   accepted-by t g c e p = ap (λ (x : Growing). record { number = 0; after = x }) p ∙ sym (accepted g c e)
 
   -- leaves in two parts

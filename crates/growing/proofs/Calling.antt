@@ -21,7 +21,7 @@ use Rattle.growing.specs.declared.Growing.{Growing}
 use Rattle.growing.specs.declared.Grown.{Grown}
 use Rattle.growing.specs.Limits.{mostHashes}
 use Rattle.growing.specs.Hashes.{digest, nothing, fresh, counting, withLeaf, withLeaves}
-use Rattle.growing.specs.Calls.{Call, ofPage, ofLeaves, roomNumber, callNumber, brought, answered, final, taken, allBrought, AllAccepted}
+use Rattle.growing.specs.Calls.{Call, ofPage, ofLeaves, roomNumber, callNumber, brought, grownBy, treeAfter, leavesTaken, allBrought, AllAccepted}
 use Rattle.growing.specs.Claims.{Follows, FollowsAll, HoweverCut, AllTaken, RefusedUnchanged, Takes}
 use Rattle.growing.proofs.Holding.{Holds, holds-none, holds-more, holds-full, holds-at, holds-zeros, carried-length, length-snoc}
 use Rattle.growing.proofs.Stepping.{root-now-of}
@@ -56,27 +56,27 @@ module _ (H : List ℕ → List ℕ) where
 
   -- what a call adds
   abbrev kept : Growing → Call → List (List ℕ)
-  kept g c = cond (eqb (answered H g c .number) 0) (brought H c) []
+  kept g c = cond (eqb (grownBy H g c .number) 0) (brought H c) []
 
   by-number : (g : Growing) (c : Call) (P : Grown → List (List ℕ) → Type 0) →
       (callNumber (g .count) c ≡ 0 → P (record { number = 0; after = withLeaves H g (brought H c) }) (brought H c)) →
-      ((n : ℕ) → P (record { number = suc n; after = g }) []) → P (answered H g c) (kept g c)
+      ((n : ℕ) → P (record { number = suc n; after = g }) []) → P (grownBy H g c) (kept g c)
   by-number g c P a r = go (callNumber (g .count) c) refl
     where
-      go : (n : ℕ) → callNumber (g .count) c ≡ n → P (answered H g c) (kept g c)
+      go : (n : ℕ) → callNumber (g .count) c ≡ n → P (grownBy H g c) (kept g c)
       go zero e = rw (accepted H g c e) (a e)
       go (suc n) e = rw (refused H g c n e, ne-eqb (suc n) 0 (λ z. omega arith)) (r n)
 
-  tree-of : (g : Growing) (c : Call) → answered H g c .after ≡ withLeaves H g (kept g c)
+  tree-of : (g : Growing) (c : Call) → grownBy H g c .after ≡ withLeaves H g (kept g c)
   unfolding withLeaves
   tree-of g c = by-number g c (λ o k. o .after ≡ withLeaves H g k) (λ e. refl) (λ n. refl)
 
-  pub one-by-one : (g : Growing) (calls : List Call) → final H g calls ≡ withLeaves H g (taken H g calls)
-  unfolding withLeaves final taken
+  pub one-by-one : (g : Growing) (calls : List Call) → treeAfter H g calls ≡ withLeaves H g (leavesTaken H g calls)
+  unfolding withLeaves treeAfter leavesTaken
   one-by-one g [] = refl
   one-by-one g (c ∷ calls) =
-      let t = answered H g c .after in
-      one-by-one t calls ∙ ap (λ (x : Growing). withLeaves H x (taken H t calls)) (tree-of g c) ∙ sym (with-append H g (kept g c) (taken H t calls))
+      let t = grownBy H g c .after in
+      one-by-one t calls ∙ ap (λ (x : Growing). withLeaves H x (leavesTaken H t calls)) (tree-of g c) ∙ sym (with-append H g (kept g c) (leavesTaken H t calls))
 
   -- no call goes past the largest size
   brought-fits : (count : ℕ) (c : Call) → callNumber count c ≡ 0 → count + length (brought H c) ≤ largestSize
@@ -87,15 +87,15 @@ module _ (H : List ℕ → List ℕ) where
       let n = nodes-length leaves in
       omega arith
 
-  within : (g : Growing) (calls : List Call) → g .count ≤ largestSize → g .count + length (taken H g calls) ≤ largestSize
-  unfolding taken
+  within : (g : Growing) (calls : List Call) → g .count ≤ largestSize → g .count + length (leavesTaken H g calls) ≤ largestSize
+  unfolding leavesTaken
   within g [] h = omega arith
   within g (c ∷ calls) h =
-      let t = answered H g c .after in
+      let t = grownBy H g c .after in
       let k = by-number g c (λ o l. g .count + length l ≤ largestSize) (λ e. brought-fits (g .count) c e) (λ n. omega arith) in
       let d : t .count ≡ g .count + length (kept g c) = ap (λ (x : Growing). x .count) (tree-of g c) ∙ with-count H g (kept g c) in
       let w = within t calls (omega arith) in
-      let n = length-append (kept g c) (taken H t calls) in
+      let n = length-append (kept g c) (leavesTaken H t calls) in
       omega arith
 
   -- a tree that has the leaves l
@@ -116,24 +116,24 @@ module _ (H : List ℕ → List ℕ) where
 
   pub follows-all : FollowsAll H
   follows-all calls =
-      let l = taken H fresh calls in
+      let l = leavesTaken H fresh calls in
       let w : length l ≤ largestSize = let v = within fresh calls (omega arith) in omega arith in
       let p = has-more mostHashes fresh [] l (omega arith) has-none in
-      follows (final H fresh calls) l w (one-by-one fresh calls) (rw (one-by-one fresh calls) p)
+      follows (treeAfter H fresh calls) l w (one-by-one fresh calls) (rw (one-by-one fresh calls) p)
 
   pub however-cut : HoweverCut H
   however-cut calls others e = one-by-one fresh calls ∙ ap (withLeaves H fresh) e ∙ sym (one-by-one fresh others)
 
   pub all-taken : AllTaken H
-  unfolding taken allBrought AllAccepted
+  unfolding leavesTaken allBrought AllAccepted
   all-taken g [] p = refl
   all-taken g (c ∷ calls) p =
-      let t = answered H g c .after in
-      let e : cond (eqb (answered H g c .number) 0) (brought H c) [] ≡ brought H c = rw (p .0) in
+      let t = grownBy H g c .after in
+      let e : cond (eqb (grownBy H g c .number) 0) (brought H c) [] ≡ brought H c = rw (p .0) in
       ap₂ _++_ e (all-taken t calls (p .1))
 
   pub refused-unchanged : RefusedUnchanged H
-  unfolding answered
+  unfolding grownBy
   refused-unchanged g c n e = ap (λ (o : Grown). o .after) (refused H g c n e)
 
   -- ---- what pages and joined hashes bring
@@ -147,10 +147,10 @@ module _ (H : List ℕ → List ℕ) where
   unfolding allBrought brought
   leaves-brought leaves = append-nil (nodes leaves)
 
-  pub pages-taken : (pages : List (List ℕ)) → AllAccepted H fresh (map ofPage pages) → taken H fresh (map ofPage pages) ≡ map (leaf H) pages
+  pub pages-taken : (pages : List (List ℕ)) → AllAccepted H fresh (map ofPage pages) → leavesTaken H fresh (map ofPage pages) ≡ map (leaf H) pages
   pages-taken pages a = all-taken fresh (map ofPage pages) a ∙ pages-brought pages
 
-  pub leaves-taken : (leaves : List ℕ) → AllAccepted H fresh (ofLeaves leaves ∷ []) → taken H fresh (ofLeaves leaves ∷ []) ≡ nodes leaves
+  pub leaves-taken : (leaves : List ℕ) → AllAccepted H fresh (ofLeaves leaves ∷ []) → leavesTaken H fresh (ofLeaves leaves ∷ []) ≡ nodes leaves
   leaves-taken leaves a = all-taken fresh (ofLeaves leaves ∷ []) a ∙ leaves-brought leaves
 
   pub takes : Takes H

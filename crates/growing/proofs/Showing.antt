@@ -24,24 +24,24 @@ use Rattle.tree.proofs.Completing.{root-32}
 use Rattle.tree.proofs.Building.{complete}
 use Rattle.growing.specs.declared.Growing.{Growing}
 use Rattle.growing.specs.Hashes.{fresh, rootNow}
-use Rattle.growing.specs.Calls.{Call, ofPage, ofLeaves, brought, answered, final, taken}
-use Rattle.growing.specs.Claims.{PagesOrJoined, ShownAll, Collision, SameLeaves}
+use Rattle.growing.specs.Calls.{Call, ofPage, ofLeaves, brought, grownBy, treeAfter, leavesTaken}
+use Rattle.growing.specs.Claims.{PagesOrJoined, ShownAll, SomeCollision, SameLeaves}
 use Rattle.growing.proofs.Calling.{follows-all, however-cut, pages-taken, leaves-taken}
 
 module _ (H : List ℕ → List ℕ) where
   -- a list of calls in two parts
-  final-append : (g : Growing) (calls more : List Call) → final H g (calls ++ more) ≡ final H (final H g calls) more
-  unfolding final
+  final-append : (g : Growing) (calls more : List Call) → treeAfter H g (calls ++ more) ≡ treeAfter H (treeAfter H g calls) more
+  unfolding treeAfter
   final-append g [] more = refl
-  final-append g (c ∷ calls) more = final-append (answered H g c .after) calls more
+  final-append g (c ∷ calls) more = final-append (grownBy H g c .after) calls more
 
-  taken-append : (g : Growing) (calls more : List Call) → taken H g (calls ++ more) ≡ taken H g calls ++ taken H (final H g calls) more
-  unfolding final taken
+  taken-append : (g : Growing) (calls more : List Call) → leavesTaken H g (calls ++ more) ≡ leavesTaken H g calls ++ leavesTaken H (treeAfter H g calls) more
+  unfolding treeAfter leavesTaken
   taken-append g [] more = refl
   taken-append g (c ∷ calls) more =
-      let k = cond (eqb (answered H g c .number) 0) (brought H c) [] in
-      let t = answered H g c .after in
-      ap (λ (l : List (List ℕ)). k ++ l) (taken-append t calls more) ∙ sym (append-assoc k (taken H t calls) (taken H (final H t calls) more))
+      let k = cond (eqb (grownBy H g c .number) 0) (brought H c) [] in
+      let t = grownBy H g c .after in
+      ap (λ (l : List (List ℕ)). k ++ l) (taken-append t calls more) ∙ sym (append-assoc k (leavesTaken H t calls) (leavesTaken H (treeAfter H t calls) more))
 
   module _ (H32 : (s : List ℕ) → length (H s) ≡ 32) where
     -- every leaf hash that is taken has 32 bytes
@@ -50,43 +50,43 @@ module _ (H : List ℕ → List ℕ) where
     brought-32 (ofPage page) = all-one (leaf H page) (H32 (0 ∷ page))
     brought-32 (ofLeaves leaves) = all-nodes leaves
 
-    pub taken-32 : (g : Growing) (calls : List Call) → All32 (taken H g calls)
-    unfolding taken
+    pub taken-32 : (g : Growing) (calls : List Call) → All32 (leavesTaken H g calls)
+    unfolding leavesTaken
     taken-32 g [] = all-none
-    taken-32 g (c ∷ calls) = all-append (cond (eqb (answered H g c .number) 0) (brought H c) []) (taken H (answered H g c .after) calls) (go (eqb (answered H g c .number) 0)) (taken-32 (answered H g c .after) calls)
+    taken-32 g (c ∷ calls) = all-append (cond (eqb (grownBy H g c .number) 0) (brought H c) []) (leavesTaken H (grownBy H g c .after) calls) (go (eqb (grownBy H g c .number) 0)) (taken-32 (grownBy H g c .after) calls)
       where
         go : (b : Bool) → All32 (cond b (brought H c) [])
         go true = brought-32 c
         go false = all-none
 
     -- the builders' list, and its count
-    list-of : (calls : List Call) → nodes (joined (taken H fresh calls)) ≡ taken H fresh calls
-    list-of calls = nodes-joined (taken H fresh calls) (taken-32 fresh calls)
+    list-of : (calls : List Call) → nodes (joined (leavesTaken H fresh calls)) ≡ leavesTaken H fresh calls
+    list-of calls = nodes-joined (leavesTaken H fresh calls) (taken-32 fresh calls)
 
-    count-of : (calls : List Call) → length (joined (taken H fresh calls)) / 32 ≡ final H fresh calls .count
+    count-of : (calls : List Call) → length (joined (leavesTaken H fresh calls)) / 32 ≡ treeAfter H fresh calls .count
     count-of calls =
-        let e = joined-length (taken H fresh calls) (taken-32 fresh calls) in
+        let e = joined-length (leavesTaken H fresh calls) (taken-32 fresh calls) in
         let d = follows-all H calls .count-of-all in
         omega arith
 
-    root-of : (calls : List Call) → root H (nodes (joined (taken H fresh calls))) ≡ rootNow H (final H fresh calls)
+    root-of : (calls : List Call) → root H (nodes (joined (leavesTaken H fresh calls))) ≡ rootNow H (treeAfter H fresh calls)
     root-of calls = ap (root H) (list-of calls) ∙ sym (follows-all H calls .root-of-all)
 
     -- the leaves of an earlier moment are the first of those of a later one
-    earlier : (calls more : List Call) → root H (take (final H fresh calls .count) (nodes (joined (taken H fresh (calls ++ more))))) ≡ rootNow H (final H fresh calls)
+    earlier : (calls more : List Call) → root H (take (treeAfter H fresh calls .count) (nodes (joined (leavesTaken H fresh (calls ++ more))))) ≡ rootNow H (treeAfter H fresh calls)
     earlier calls more =
-        let l = taken H fresh calls in
+        let l = leavesTaken H fresh calls in
         let d = follows-all H calls .count-of-all in
-        ap (λ (t : List (List ℕ)). root H (take (final H fresh calls .count) t)) (list-of (calls ++ more) ∙ taken-append fresh calls more)
-        ∙ ap (root H) (take-at l (taken H (final H fresh calls) more) (final H fresh calls .count) (sym d))
+        ap (λ (t : List (List ℕ)). root H (take (treeAfter H fresh calls .count) t)) (list-of (calls ++ more) ∙ taken-append fresh calls more)
+        ∙ ap (root H) (take-at l (leavesTaken H (treeAfter H fresh calls) more) (treeAfter H fresh calls .count) (sym d))
         ∙ sym (follows-all H calls .root-of-all)
 
     pub shown-all : ShownAll H
     shown-all calls = record {
       inclusion = λ place room w e.
-          rw (count-of calls, root-of calls) at (complete H H32 .inclusion (joined (taken H fresh calls)) w place room e);
+          rw (count-of calls, root-of calls) at (complete H H32 .inclusion (joined (leavesTaken H fresh calls)) w place room e);
       consistency = λ more room w e.
-          rw (count-of (calls ++ more), root-of (calls ++ more), earlier calls more) at (complete H H32 .consistency (joined (taken H fresh (calls ++ more))) w (final H fresh calls .count) room e);
+          rw (count-of (calls ++ more), root-of (calls ++ more), earlier calls more) at (complete H H32 .consistency (joined (leavesTaken H fresh (calls ++ more))) w (treeAfter H fresh calls .count) room e);
     }
 
     -- the leaf hashes of pages, joined
@@ -103,21 +103,21 @@ module _ (H : List ℕ → List ℕ) where
     -- ---- one root of one count
 
     -- two nodes with one hash have the same parts, or their strings collide
-    parts : (a b c d : List ℕ) → length a ≡ 32 → length c ≡ 32 → node H a b ≡ node H c d → ((a ≡ c) × (b ≡ d)) ⊎ Collision H
+    parts : (a b c d : List ℕ) → length a ≡ 32 → length c ≡ 32 → node H a b ≡ node H c d → ((a ≡ c) × (b ≡ d)) ⊎ SomeCollision H
     unfolding node
     parts a b c d p q e = go (same (1 ∷ (a ++ b)) (1 ∷ (c ++ d))) refl
       where
-        go : (t : Bool) → same (1 ∷ (a ++ b)) (1 ∷ (c ++ d)) ≡ t → ((a ≡ c) × (b ≡ d)) ⊎ Collision H
+        go : (t : Bool) → same (1 ∷ (a ++ b)) (1 ∷ (c ++ d)) ≡ t → ((a ≡ c) × (b ≡ d)) ⊎ SomeCollision H
         go true s =
             let u : a ++ b ≡ c ++ d = ap (drop 1) (same-true (1 ∷ (a ++ b)) (1 ∷ (c ++ d)) s) in
             inl (
               sym (take-at a b 32 p) ∙ ap (take 32) u ∙ take-at c d 32 q,
               sym (drop-at a b 32 p) ∙ ap (drop 32) u ∙ drop-at c d 32 q,
             )
-        go false s = inr record { first = 1 ∷ (a ++ b); second = 1 ∷ (c ++ d); different = λ u. false≢true (sym s ∙ same-of (1 ∷ (a ++ b)) (1 ∷ (c ++ d)) u); one-hash = e }
+        go false s = inr (1 ∷ (a ++ b), (1 ∷ (c ++ d), record { different = λ u. false≢true (sym s ∙ same-of (1 ∷ (a ++ b)) (1 ∷ (c ++ d)) u); one-hash = e }))
 
     Binds : List (List ℕ) → Type 0
-    Binds l = (m : List (List ℕ)) → length m ≡ length l → All32 l → All32 m → root H l ≡ root H m → (l ≡ m) ⊎ Collision H
+    Binds l = (m : List (List ℕ)) → length m ≡ length l → All32 l → All32 m → root H l ≡ root H m → (l ≡ m) ⊎ SomeCollision H
 
     binds-one : (h : List ℕ) → Binds (h ∷ [])
     unfolding Binds
@@ -160,5 +160,5 @@ module _ (H : List ℕ → List ℕ) where
     same-leaves calls others e r =
         let f = follows-all H calls in
         let g = follows-all H others in
-        binds (taken H fresh calls) (taken H fresh others) (sym (g .count-of-all) ∙ sym e ∙ f .count-of-all) (taken-32 fresh calls) (taken-32 fresh others)
+        binds (leavesTaken H fresh calls) (leavesTaken H fresh others) (sym (g .count-of-all) ∙ sym e ∙ f .count-of-all) (taken-32 fresh calls) (taken-32 fresh others)
         (sym (f .root-of-all) ∙ r ∙ g .root-of-all)

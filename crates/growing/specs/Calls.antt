@@ -36,8 +36,8 @@ module _ (H : List ℕ → List ℕ) where
   brought (ofLeaves leaves) = nodes leaves
 
   -- the number, and the tree after it: a refusal changes nothing
-  unfoldable pub answered : Growing → Call → Grown
-  answered g c =
+  unfoldable pub grownBy : Growing → Call → Grown
+  grownBy g c =
       record { number = callNumber (g .count) c; after = cond (eqb (callNumber (g .count) c) 0) (withLeaves H g (brought c)) g }
 
   -- the root into an output of `room` bytes
@@ -45,14 +45,14 @@ module _ (H : List ℕ → List ℕ) where
   rootInto g room = into room (rootNow H g)
 
   -- the tree after a list of calls, the first given g and each later one the tree that the call before returned, refused or not
-  unfoldable pub final : Growing → List Call → Growing
-  final g [] = g
-  final g (c ∷ calls) = final (answered g c .after) calls
+  unfoldable pub treeAfter : Growing → List Call → Growing
+  treeAfter g [] = g
+  treeAfter g (c ∷ calls) = treeAfter (grownBy g c .after) calls
 
   -- the leaf hashes that the accepted ones brought, in order
-  unfoldable pub taken : Growing → List Call → List (List ℕ)
-  taken g [] = []
-  taken g (c ∷ calls) = cond (eqb (answered g c .number) 0) (brought c) [] ++ taken (answered g c .after) calls
+  unfoldable pub leavesTaken : Growing → List Call → List (List ℕ)
+  leavesTaken g [] = []
+  leavesTaken g (c ∷ calls) = cond (eqb (grownBy g c .number) 0) (brought c) [] ++ leavesTaken (grownBy g c .after) calls
 
   -- those that all of them brought, and that all were accepted
   unfoldable pub allBrought : List Call → List (List ℕ)
@@ -61,4 +61,4 @@ module _ (H : List ℕ → List ℕ) where
 
   unfoldable pub AllAccepted : Growing → List Call → Type 0
   AllAccepted g [] = Unit {0}
-  AllAccepted g (c ∷ calls) = (answered g c .number ≡ 0) × AllAccepted (answered g c .after) calls
+  AllAccepted g (c ∷ calls) = (grownBy g c .number ≡ 0) × AllAccepted (grownBy g c .after) calls

@@ -9,6 +9,7 @@ use lib.ListN.{length, take, drop, getD, replicate}
 use Rattle.hash.specs.Digest.{sha256}
 use Rattle.octets.specs.Limits.{mostItem}
 use Rattle.tree.specs.Limits.{largestSize, mostLeaves}
+use Rattle.tree.specs.Collision.{Collision}
 use Rattle.tree.specs.Tree.{leaf, root, mth}
 use Rattle.tree.specs.Joined.{nodes, nodeAt, joined}
 use Rattle.tree.specs.Verdict.{inclusionVerdict, consistencyVerdict}
@@ -17,7 +18,7 @@ use Rattle.tree.specs.Full.{fullRoots}
 use Rattle.growing.specs.declared.Growing.{Growing}
 use Rattle.growing.specs.Limits.{mostHashes}
 use Rattle.growing.specs.Hashes.{digest, nothing, fresh, counting, withLeaves, rootNow}
-use Rattle.growing.specs.Calls.{Call, ofPage, ofLeaves, answered, final, taken, allBrought, AllAccepted}
+use Rattle.growing.specs.Calls.{Call, ofPage, ofLeaves, grownBy, treeAfter, leavesTaken, allBrought, AllAccepted}
 
 -- the leaves of the last full subtree of 2 ^ i leaves
 abbrev pub lastFull : ℕ → List (List ℕ) → List (List ℕ)
@@ -41,10 +42,10 @@ module _ (H : List ℕ → List ℕ) where
 
   -- the tree after calls from a new one, refused ones included, and the leaves that the accepted ones brought
   abbrev pub treeOf : List Call → Growing
-  treeOf calls = final H fresh calls
+  treeOf calls = treeAfter H fresh calls
 
   abbrev pub leavesOf : List Call → List (List ℕ)
-  leavesOf calls = taken H fresh calls
+  leavesOf calls = leavesTaken H fresh calls
 
   abbrev pub FollowsAll : Type 0
   FollowsAll = (calls : List Call) → Follows (treeOf calls) (leavesOf calls)
@@ -55,7 +56,7 @@ module _ (H : List ℕ → List ℕ) where
 
   -- where all are accepted, all that was brought was taken
   abbrev pub AllTaken : Type 0
-  AllTaken = (g : Growing) (calls : List Call) → AllAccepted H g calls → taken H g calls ≡ allBrought H calls
+  AllTaken = (g : Growing) (calls : List Call) → AllAccepted H g calls → leavesTaken H g calls ≡ allBrought H calls
 
   -- pages one by one give the RFC's MTH of the pages, and joined hashes the root of these hashes
   pub record Takes : Type 0 where
@@ -70,19 +71,19 @@ module _ (H : List ℕ → List ℕ) where
 
   -- a refusal changes nothing, whatever the tree
   abbrev pub RefusedUnchanged : Type 0
-  RefusedUnchanged = (g : Growing) (c : Call) (n : ℕ) → answered H g c .number ≡ suc n → answered H g c .after ≡ g
+  RefusedUnchanged = (g : Growing) (c : Call) (n : ℕ) → grownBy H g c .number ≡ suc n → grownBy H g c .after ≡ g
 
   -- which calls are accepted, whatever the tree, and that what is wrong with the bytes comes before 6; no joined hashes add nothing
   pub record Accepts (g : Growing) : Type 0 where
-    pub page : (page : List ℕ) → (answered H g (ofPage page) .number ≡ 0) ↔ ((length page ≤ mostItem) × (g .count + 1 ≤ largestSize))
+    pub page : (page : List ℕ) → (grownBy H g (ofPage page) .number ≡ 0) ↔ ((length page ≤ mostItem) × (g .count + 1 ≤ largestSize))
     pub leaves :
         (leaves : List ℕ) →
-        (answered H g (ofLeaves leaves) .number ≡ 0) ↔
+        (grownBy H g (ofLeaves leaves) .number ≡ 0) ↔
         ((length leaves % 32 ≡ 0) × (length leaves / 32 ≤ mostLeaves) × (g .count + length leaves / 32 ≤ largestSize))
-    pub page-first : (page : List ℕ) → mostItem < length page → answered H g (ofPage page) .number ≡ 1
-    pub joined-first : (leaves : List ℕ) → (length leaves % 32 ≡ 0 → ⊥) → answered H g (ofLeaves leaves) .number ≡ 10
-    pub many-first : (leaves : List ℕ) → mostLeaves < length leaves / 32 → answered H g (ofLeaves leaves) .number ≡ 10
-    pub none : g .count ≤ largestSize → answered H g (ofLeaves []) ≡ record { number = 0; after = g }
+    pub page-first : (page : List ℕ) → mostItem < length page → grownBy H g (ofPage page) .number ≡ 1
+    pub joined-first : (leaves : List ℕ) → (length leaves % 32 ≡ 0 → ⊥) → grownBy H g (ofLeaves leaves) .number ≡ 10
+    pub many-first : (leaves : List ℕ) → mostLeaves < length leaves / 32 → grownBy H g (ofLeaves leaves) .number ≡ 10
+    pub no-leaves : g .count ≤ largestSize → grownBy H g (ofLeaves []) ≡ record { number = 0; after = g }
 
   abbrev pub AcceptsAll : Type 0
   AcceptsAll = (g : Growing) → Accepts g
@@ -102,21 +103,17 @@ module _ (H : List ℕ → List ℕ) where
   abbrev pub ShownAll : Type 0
   ShownAll = (calls : List Call) → Shown calls
 
-  -- two strings that differ and have one hash
-  pub record Collision : Type 0 where
-    pub first : List ℕ
-    pub second : List ℕ
-    pub different : first ≡ second → ⊥
-    pub one-hash : H first ≡ H second
+  abbrev pub SomeCollision : Type 0
+  SomeCollision = (s : List ℕ) × ((t : List ℕ) × Collision H s t)
 
   -- two growing trees with one count and one root have the same leaves, or a collision is found
   abbrev pub SameLeaves : Type 0
   SameLeaves =
       (calls others : List Call) → treeOf calls .count ≡ treeOf others .count → rootNow H (treeOf calls) ≡ rootNow H (treeOf others) →
-      (leavesOf calls ≡ leavesOf others) ⊎ Collision
+      (leavesOf calls ≡ leavesOf others) ⊎ SomeCollision
 
 -- at SHA-256, of the calls as their contracts have them (proofs/Every)
 pub record AtSha256 : Type 0 where
   pub follows : FollowsAll sha256
-  pub cut : HoweverCut sha256
+  pub however-cut : HoweverCut sha256
   pub refused : RefusedUnchanged sha256

@@ -6,7 +6,7 @@ use tree::build::bad_leaves;
 use tree::limits::LARGEST_SIZE;
 ghost use mathlib.Core.Path.{_≡_};
 ghost use Rattle.hash.specs.Digest.{sha256};
-ghost use Rattle.growing.specs.Calls.{ofPage, ofLeaves, roomNumber, answered};
+ghost use Rattle.growing.specs.Calls.{ofPage, ofLeaves, roomNumber, grownBy};
 
 // 6 where n more leaves go past the largest size, else 0. Nothing is added up: a count may be any number.
 fn room_number(count: u64, n: u64) -> u32
@@ -27,7 +27,7 @@ fn refused(number: u32, g: Growing) -> Grown
 
 // The tree with one more page.
 pub fn add_page(g: Growing, page: &[u8]) -> Grown
-    ensures { λ r. ⌜ r ≡ answered sha256 g (ofPage (now (page .entry))) ⌝ }
+    ensures { λ r. ⌜ r ≡ grownBy sha256 g (ofPage (now (page .entry))) ⌝ }
 {
     let hashed = hash::leaf(page);
     if hashed.number != 0 {
@@ -45,7 +45,7 @@ pub fn add_page(g: Growing, page: &[u8]) -> Grown
 
 // The tree with all of joined leaf hashes.
 pub fn add_leaves(g: Growing, leaves: &[u8]) -> Grown
-    ensures { λ r. ⌜ r ≡ answered sha256 g (ofLeaves (now (leaves .entry))) ⌝ }
+    ensures { λ r. ⌜ r ≡ grownBy sha256 g (ofLeaves (now (leaves .entry))) ⌝ }
 {
     if bad_leaves(leaves) {
         return refused(10, g);

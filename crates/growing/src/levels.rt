@@ -14,7 +14,7 @@ ghost use Rattle.growing.specs.Limits.{mostHashes};
 ghost use Rattle.growing.specs.Hashes.{nothing, counting, withLeaves, rootNow};
 
 // 32 zeros, where nothing counts.
-pub(crate) fn none() -> Digest
+pub(crate) fn no_hash() -> Digest
     ensures { λ r. ⌜ r ≡ nothing ⌝ }
 {
     Digest { bytes: [0; 32] }
@@ -39,7 +39,7 @@ pub(crate) fn with_leaves(g: Growing, leaves: &[u8], n: usize) -> Growing
             }
             let waiting = hashes[level];
             h = hash::node(waiting, h);
-            hashes[level] = none();
+            hashes[level] = no_hash();
             m = m / 2;
             level += 1;
         }

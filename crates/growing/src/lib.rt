@@ -9,14 +9,14 @@ mod levels;
 ghost use mathlib.Core.Path.{_≡_};
 ghost use lib.ListN.{length};
 ghost use Rattle.hash.specs.Digest.{sha256};
-ghost use Rattle.tree.specs.Build.{building, report, output};
+ghost use Rattle.tree.specs.Build.{building, buildReport, output};
 ghost use Rattle.tree.specs.Claims.{OfEvery, OfEvery32};
 ghost use Rattle.growing.specs.Hashes.{fresh, rootNow};
 ghost use Rattle.growing.specs.Calls.{rootInto};
 ghost use Rattle.growing.specs.Claims.{FollowsAll, HoweverCut, AllTaken, Takes, PagesOrJoined, RefusedUnchanged};
 ghost use Rattle.growing.specs.Claims.{AcceptsAll, ShownAll, SameLeaves, AtSha256};
 use hash::Digest;
-use levels::none;
+use levels::no_hash;
 use levels::root_of;
 use octets::copy;
 use tree::build::Built;
@@ -39,7 +39,7 @@ pub struct Grown {
 pub fn new() -> Growing
     ensures { λ r. ⌜ r ≡ fresh ⌝ }
 {
-    let nothing = none();
+    let nothing = no_hash();
     Growing {
         hashes: [nothing; MOST_HASHES],
         count: 0,
@@ -55,8 +55,9 @@ pub fn root(g: Growing) -> Digest
 
 // Writes the root. 9: the output has fewer than 32 bytes. The root is made before that is asked: a digest is known to have 32 bytes.
 pub fn root_into(g: Growing, out: &mut [u8]) -> Built
-    ensures { λ r. ⌜ building r ≡ report (rootInto sha256 g (length (now (out .entry)))) ⌝ }
-    ensures { λ _. ⌜ now (out .exit) ≡ output (rootInto sha256 g (length (now (out .entry)))) (now (out .entry)) ⌝ }
+    ensures { λ r. ⌜
+        (let o = rootInto sha256 g (length (now (out .entry))) in
+        (building r ≡ buildReport o) × (now (out .exit) ≡ output o (now (out .entry)))) ⌝ }
 {
     let made = root(g);
     let bytes = made.bytes;

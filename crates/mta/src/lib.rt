@@ -6,11 +6,11 @@ ghost use Rattle.hash.specs.Digest.{sha256, leafHash};
 ghost use Rattle.octets.specs.Limits.{mostItem};
 ghost use Rattle.hash.specs.Answers.{mostInput, intoNumber, intoBytes};
 ghost use Rattle.tree.specs.Verdict.{inclusionVerdict, consistencyVerdict};
-ghost use Rattle.octets.specs.Answer.{number};
-ghost use Rattle.tree.specs.Build.{building, report, output, rootBuilt};
+ghost use Rattle.sha256.specs.Told.{number};
+ghost use Rattle.tree.specs.Build.{building, buildReport, output, rootBuilt};
 ghost use Rattle.item.specs.Item.{reading, readItem, writing};
-ghost use Rattle.carry.specs.Forward.{carry, pathAfter, pairAfter, report as carryReport};
-ghost use Rattle.carry.specs.Compare.{compare, report as compareReport, pairAfter as comparePair};
+ghost use Rattle.carry.specs.Forward.{carry, pathCarried, pairCarried, carryReport};
+ghost use Rattle.carry.specs.Compare.{compare, compareReport, pairCompared};
 ghost use Rattle.mta.specs.Entries.{writtenAfter, collidedAfter, differedAfter, numberOf, placeOf, lengthAfter, sizesOf, consistencyWritten};
 ghost use Rattle.mta.specs.Judged.{ItemsAreJudged};
 ghost use Rattle.mta.specs.Slices.{nodeNumber, nodeBytes, wordsOf, wordsNumber, wordsAfter, scheduleAfter};
@@ -63,11 +63,14 @@ pub extern "C" fn mta_carry(
     written: &mut u64,
     collided: &mut bool,
 ) -> u32
-    ensures { λ r. ⌜ r ≡ number (carryReport (carry sha256 (now (leaf .entry)) place m n (now (old .entry)) (now (new .entry)) (now (path .entry)) (now (proof .entry)) (length (now (out .entry))) (length (now (pair .entry))))) ⌝ }
-    ensures { λ _. ⌜ now (out .exit) ≡ pathAfter (carry sha256 (now (leaf .entry)) place m n (now (old .entry)) (now (new .entry)) (now (path .entry)) (now (proof .entry)) (length (now (out .entry))) (length (now (pair .entry)))) (now (out .entry)) ⌝ }
-    ensures { λ _. ⌜ now (pair .exit) ≡ pairAfter (carry sha256 (now (leaf .entry)) place m n (now (old .entry)) (now (new .entry)) (now (path .entry)) (now (proof .entry)) (length (now (out .entry))) (length (now (pair .entry)))) (now (pair .entry)) ⌝ }
-    ensures { λ _. ⌜ now (written .exit) ≡ writtenAfter (carryReport (carry sha256 (now (leaf .entry)) place m n (now (old .entry)) (now (new .entry)) (now (path .entry)) (now (proof .entry)) (length (now (out .entry))) (length (now (pair .entry))))) (now (written .entry)) ⌝ }
-    ensures { λ _. ⌜ now (collided .exit) ≡ collidedAfter (carryReport (carry sha256 (now (leaf .entry)) place m n (now (old .entry)) (now (new .entry)) (now (path .entry)) (now (proof .entry)) (length (now (out .entry))) (length (now (pair .entry))))) (now (collided .entry)) ⌝ }
+    ensures { λ r. ⌜
+        (let o = carry sha256 (now (leaf .entry)) place m n (now (old .entry)) (now (new .entry)) (now (path .entry)) (now (proof .entry))
+        (length (now (out .entry))) (length (now (pair .entry))) in
+        (r ≡ number (carryReport o))
+        × ((now (out .exit) ≡ pathCarried o (now (out .entry)))
+        × ((now (pair .exit) ≡ pairCarried o (now (pair .entry)))
+        × ((now (written .exit) ≡ writtenAfter (carryReport o) (now (written .entry)))
+        × (now (collided .exit) ≡ collidedAfter (carryReport o) (now (collided .entry))))))) ⌝ }
 {
     match carry::forward::carry(leaf, place, m, n, old, new, path, proof, out, pair) {
         Carried::Path(count) => {
@@ -98,9 +101,12 @@ pub extern "C" fn mta_compare(
     pair: &mut [u8],
     collided: &mut bool,
 ) -> u32
-    ensures { λ r. ⌜ r ≡ number (compareReport (compare sha256 place size (now (root .entry)) (now (leaf1 .entry)) (now (path1 .entry)) (now (leaf2 .entry)) (now (path2 .entry)) (length (now (pair .entry))))) ⌝ }
-    ensures { λ _. ⌜ now (pair .exit) ≡ comparePair (compare sha256 place size (now (root .entry)) (now (leaf1 .entry)) (now (path1 .entry)) (now (leaf2 .entry)) (now (path2 .entry)) (length (now (pair .entry)))) (now (pair .entry)) ⌝ }
-    ensures { λ _. ⌜ now (collided .exit) ≡ differedAfter (compareReport (compare sha256 place size (now (root .entry)) (now (leaf1 .entry)) (now (path1 .entry)) (now (leaf2 .entry)) (now (path2 .entry)) (length (now (pair .entry))))) (now (collided .entry)) ⌝ }
+    ensures { λ r. ⌜
+        (let o = compare sha256 place size (now (root .entry)) (now (leaf1 .entry)) (now (path1 .entry)) (now (leaf2 .entry)) (now (path2 .entry))
+        (length (now (pair .entry))) in
+        (r ≡ number (compareReport o))
+        × ((now (pair .exit) ≡ pairCompared o (now (pair .entry)))
+        × (now (collided .exit) ≡ differedAfter (compareReport o) (now (collided .entry))))) ⌝ }
 {
     match carry::compare::compare(place, size, root, leaf1, path1, leaf2, path2, pair) {
         Compared::Same => {
@@ -118,8 +124,9 @@ pub extern "C" fn mta_compare(
 // The root of joined leaf hashes into the first 32 bytes of out.
 #[no_mangle]
 pub extern "C" fn mta_root(leaves: &[u8], out: &mut [u8]) -> u32
-    ensures { λ r. ⌜ r ≡ number (report (rootBuilt sha256 (now (leaves .entry)) (length (now (out .entry))))) ⌝ }
-    ensures { λ _. ⌜ now (out .exit) ≡ output (rootBuilt sha256 (now (leaves .entry)) (length (now (out .entry)))) (now (out .entry)) ⌝ }
+    ensures { λ r. ⌜
+        (let o = rootBuilt sha256 (now (leaves .entry)) (length (now (out .entry))) in
+        (r ≡ number (buildReport o)) × (now (out .exit) ≡ output o (now (out .entry)))) ⌝ }
 {
     built(tree::build::root(leaves, out))
 }
@@ -138,7 +145,7 @@ struct Refusal {
     place: usize,
 }
 
-fn none() -> Refusal
+fn not_refused() -> Refusal
     ensures { λ r. ⌜ (r .number ≡ 0) × (r .place ≡ 0) ⌝ }
 {
     Refusal {
@@ -158,14 +165,14 @@ fn refused(i: Item) -> Refusal
             issuer_key_hash: _,
             certificate: _,
             extensions: _,
-        } => none(),
+        } => not_refused(),
         Item::Receipt {
             kind: _,
             log_id: _,
             timestamp: _,
             extensions: _,
             signature: _,
-        } => none(),
+        } => not_refused(),
         Item::SignedHead {
             kind: _,
             log_id: _,
@@ -174,28 +181,28 @@ fn refused(i: Item) -> Refusal
             root_hash: _,
             extensions: _,
             signature: _,
-        } => none(),
+        } => not_refused(),
         Item::Consistency {
             kind: _,
             log_id: _,
             size_one: _,
             size_two: _,
             path: _,
-        } => none(),
+        } => not_refused(),
         Item::Inclusion {
             kind: _,
             log_id: _,
             size: _,
             place: _,
             path: _,
-        } => none(),
+        } => not_refused(),
         Item::Page {
             kind: _,
             timestamp: _,
             agreement: _,
             page: _,
             body: _,
-        } => none(),
+        } => not_refused(),
         Item::Refused { number, place } => Refusal { number, place },
     }
 }
@@ -203,8 +210,9 @@ fn refused(i: Item) -> Refusal
 // Reads an item: 0, or the number of the refusal, whose place is left in `place`.
 #[no_mangle]
 pub extern "C" fn mta_item(s: &[u8], place: &mut u64) -> u32
-    ensures { λ r. ⌜ r ≡ numberOf (readItem (now (s .entry))) ⌝ }
-    ensures { λ _. ⌜ now (place .exit) ≡ placeOf (readItem (now (s .entry))) ⌝ }
+    ensures { λ r. ⌜
+        (let o = readItem (now (s .entry)) in
+        (r ≡ numberOf o) × (now (place .exit) ≡ placeOf o)) ⌝ }
 {
     let r = refused(item::read(s));
     *place = r.place as u64;
@@ -237,22 +245,24 @@ pub extern "C" fn mta_consistency_item<'a>(
     out: &mut [u8],
     written: &mut u64,
 ) -> u32
-    ensures { λ r. ⌜ r ≡ numberOf (consistencyWritten (now (log .entry)) first second (now (path .entry)) (now (out .entry)) .answer) ⌝ }
-    ensures { λ _. ⌜ now (out .exit) ≡ consistencyWritten (now (log .entry)) first second (now (path .entry)) (now (out .entry)) .bytes ⌝ }
-    ensures { λ _. ⌜ now (written .exit) ≡ lengthAfter (consistencyWritten (now (log .entry)) first second (now (path .entry)) (now (out .entry)) .answer) (now (written .entry)) ⌝ }
+    ensures { λ r. ⌜
+        (let o = consistencyWritten (now (log .entry)) first second (now (path .entry)) (now (out .entry)) in
+        (r ≡ numberOf (o .answer))
+        × ((now (out .exit) ≡ o .bytes)
+        × (now (written .exit) ≡ lengthAfter (o .answer) (now (written .entry))))) ⌝ }
 {
-    let none = &log[..0];
+    let empty = &log[..0];
     match item::write(
         0x0105,
         sizes(first, second),
         log,
-        none,
-        none,
-        none,
-        none,
-        none,
+        empty,
+        empty,
+        empty,
+        empty,
+        empty,
         path,
-        none,
+        empty,
         out,
     ) {
         Written::Length(length) => {

@@ -16,8 +16,7 @@ use Rattle.tree.specs.Yield.{inclusionRoot, oldRoot, newRoot}
 use Rattle.octets.specs.Answer.{Answer, done}
 use Rattle.tree.specs.Joined.{firstNodes, nodes, nodeAt, nodesFrom, joined}
 use Rattle.tree.specs.Verdict.{inclusionVerdict, consistencyVerdict}
-use Rattle.octets.specs.Bytes.{over}
-use Rattle.tree.specs.Build.{Outcome, refused, wrote, report, output, into, unfit, rootBuilt, inclusionBuilt, consistencyBuilt, rootNumber, rootBytes}
+use Rattle.tree.specs.Build.{Outcome, refused, wrote, buildReport, over, output, into, unfit, rootBuilt, inclusionBuilt, consistencyBuilt, rootNumber, rootBytes}
 use Rattle.tree.specs.Claims.{Complete}
 use Rattle.tree.proofs.Counting.{path-length, subproof-length}
 use Rattle.tree.proofs.Joining.{All32, at-first, nodes-length, nodes-first, all-nodes, all-take, joined-length, nodes-joined}
@@ -95,12 +94,12 @@ module _ (H : List ℕ → List ℕ) (s : List ℕ) where
   proof-in first room u z h = rw (u, ne-eqb first 0 z, le-ltb (length s / 32) first h)
 
 -- what is told and the output, by the outcome
-pub tells-refused : {o : Outcome} {n : ℕ} (out : List ℕ) → o ≡ refused n → (Answer.refused n ≡ report o) × (out ≡ output o out)
-unfolding report output
+pub tells-refused : {o : Outcome} {n : ℕ} (out : List ℕ) → o ≡ refused n → (Told.refused n ≡ buildReport o) × (out ≡ output o out)
+unfolding buildReport output
 tells-refused out e = rw e (refl, refl)
 
-pub tells-wrote : {o : Outcome} {w : List ℕ} {n : ℕ} {y : List ℕ} (out : List ℕ) → o ≡ wrote w → n ≡ length w → y ≡ over w out → (done n ≡ report o) × (y ≡ output o out)
-unfolding report output
+pub tells-wrote : {o : Outcome} {w : List ℕ} {n : ℕ} {y : List ℕ} (out : List ℕ) → o ≡ wrote w → n ≡ length w → y ≡ over w out → (done n ≡ buildReport o) × (y ≡ output o out)
+unfolding buildReport output
 tells-wrote out e d f = rw (e, d, f) (refl, refl)
 
 -- a root, written over the output
@@ -113,7 +112,7 @@ pub from-start : (s : List ℕ) → nodesFrom 0 (length s / 32) s ≡ nodes s
 from-start s = sym (nodes-first s)
 
 -- what a recursion over all of them wrote
-pub tells-from : (f : List (List ℕ) → List (List ℕ)) (s out : List ℕ) {o : Outcome} {n : ℕ} {y : List ℕ} → o ≡ wrote (joined (f (nodes s))) → n ≡ length (joined (f (nodesFrom 0 (length s / 32) s))) → y ≡ over (joined (f (nodesFrom 0 (length s / 32) s))) out → (done n ≡ report o) × (y ≡ output o out)
+pub tells-from : (f : List (List ℕ) → List (List ℕ)) (s out : List ℕ) {o : Outcome} {n : ℕ} {y : List ℕ} → o ≡ wrote (joined (f (nodes s))) → n ≡ length (joined (f (nodesFrom 0 (length s / 32) s))) → y ≡ over (joined (f (nodesFrom 0 (length s / 32) s))) out → (done n ≡ buildReport o) × (y ≡ output o out)
 tells-from f s out e d g =
     let p = from-start s in
     tells-wrote out e (d ∙ ap (λ (l : List (List ℕ)). length (joined (f l))) p) (g ∙ ap (λ (l : List (List ℕ)). over (joined (f l)) out) p)

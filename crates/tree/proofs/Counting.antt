@@ -23,18 +23,18 @@ pub count-few : (m n : ℕ) → n ≤ 1 → inclusionCount m n ≡ 0
 unfolding inclusionCount inclusionCountOf
 count-few m n h = rw (shape-few n h)
 
-module _ (m n k : ℕ) (more : 1 < n) (cut : k ≡ split n) where
+module _ (m n k : ℕ) (more : 1 < n) (at-split : k ≡ split n) where
   pub count-low : m < k → inclusionCount m n ≡ 1 + inclusionCount m k
   unfolding inclusionCount inclusionCountOf
   count-low h =
       let e = size-left n more in
-      rw (cut, shape-fork n more, lt-ltb m (size (shape (split n))) (omega arith))
+      rw (at-split, shape-fork n more, lt-ltb m (size (shape (split n))) (omega arith))
 
   pub count-high : k ≤ m → inclusionCount m n ≡ 1 + inclusionCount (m - k) (n - k)
   unfolding inclusionCount inclusionCountOf
   count-high h =
       let e = size-left n more in
-      rw (cut, shape-fork n more, le-ltb m (size (shape (split n))) (omega arith), e)
+      rw (at-split, shape-fork n more, le-ltb m (size (shape (split n))) (omega arith), e)
 
   pub count-some : 1 ≤ inclusionCount m n
   count-some = ⊎-elim (λ t. let e = count-low t in omega arith) (λ t. let e = count-high t in omega arith) (lt-or-ge m k)
@@ -53,7 +53,7 @@ pub sub-all : (m n : ℕ) (b : Bool) → m ≡ n → subproofCount m n b ≡ con
 unfolding subproofCount
 sub-all m n b e = ⊎-elim (λ z. sub-whole (shape n) m b (e ∙ sym (size-shape n z))) (λ z. sub-few m n b (omega arith)) (lt-or-ge 0 n)
 
-module _ (m n k : ℕ) (b : Bool) (more : 1 < n) (other : m ≡ n → ⊥) (cut : k ≡ split n) where
+module _ (m n k : ℕ) (b : Bool) (more : 1 < n) (other : m ≡ n → ⊥) (at-split : k ≡ split n) where
   part : m ≡ size (shape (split n)) + size (shape (n - split n)) → ⊥
   part e = let s = split-ends n more in let u = size-left n more in let v = size-right n more in other (omega arith)
 
@@ -61,21 +61,21 @@ module _ (m n k : ℕ) (b : Bool) (more : 1 < n) (other : m ≡ n → ⊥) (cut 
   unfolding subproofCount subproofCountOf
   down-low h =
       let z = size-left n more in
-      rw (cut, shape-fork n more, ne-eqb m (size (shape (split n)) + size (shape (n - split n))) part, le-leb m (size (shape (split n))) (omega arith))
+      rw (at-split, shape-fork n more, ne-eqb m (size (shape (split n)) + size (shape (n - split n))) part, le-leb m (size (shape (split n))) (omega arith))
 
   pub down-high : k < m → subproofCount m n b ≡ 1 + subproofCount (m - k) (n - k) false
   unfolding subproofCount subproofCountOf
   down-high h =
       let z = size-left n more in
-      rw (cut, shape-fork n more, ne-eqb m (size (shape (split n)) + size (shape (n - split n))) part, lt-leb m (size (shape (split n))) (omega arith), z)
+      rw (at-split, shape-fork n more, ne-eqb m (size (shape (split n)) + size (shape (n - split n))) part, lt-leb m (size (shape (split n))) (omega arith), z)
 
 -- the same where the first m of n are a part of them
-module _ (m n k : ℕ) (b : Bool) (some : 0 < m) (lt : m < n) (cut : k ≡ split n) where
+module _ (m n k : ℕ) (b : Bool) (some : 0 < m) (lt : m < n) (at-split : k ≡ split n) where
   pub sub-low : m ≤ k → subproofCount m n b ≡ 1 + subproofCount m k b
-  sub-low = down-low m n k b (omega arith) (λ e. omega arith) cut
+  sub-low = down-low m n k b (omega arith) (λ e. omega arith) at-split
 
   pub sub-high : k < m → subproofCount m n b ≡ 1 + subproofCount (m - k) (n - k) false
-  sub-high = down-high m n k b (omega arith) (λ e. omega arith) cut
+  sub-high = down-high m n k b (omega arith) (λ e. omega arith) at-split
 
   pub sub-some : 1 ≤ subproofCount m n b
   sub-some = ⊎-elim (λ t. let e = sub-high t in omega arith) (λ t. let e = sub-low t in omega arith) (lt-or-ge k m)

@@ -98,7 +98,7 @@ trailing-top (suc w) (suc i) r z h =
     go (suc d) e less = refl
 
 -- the same by a split: what is left has the digits below
-module _ (n k m : ℕ) (cut : k ≡ split n) (least : k ≤ m) (below : m < 2 * k) where
+module _ (n k m : ℕ) (at-split : k ≡ split n) (least : k ≤ m) (below : m < 2 * k) where
   pub ones-split : ones m ≡ 1 + ones (m - k)
   ones-split =
       let t = split-power n in

@@ -23,12 +23,12 @@ module _ (i n : ℕ) (s : List ℕ) where
   from-one : n ≡ 1 → nodesFrom i n s ≡ nodeAt i s ∷ []
   from-one e = ap (λ (j : ℕ). nodesFrom i j s) e ∙ one-from i s
 
-  module _ (k : ℕ) (more : 1 < n) (cut : k ≡ split n) where
+  module _ (k : ℕ) (more : 1 < n) (at-split : k ≡ split n) where
     from-more : 1 < length (nodesFrom i n s)
     from-more = let e = from-length in omega arith
 
     from-split : split (length (nodesFrom i n s)) ≡ k
-    from-split = ap split from-length ∙ sym cut
+    from-split = ap split from-length ∙ sym at-split
 
     pub from-left : left (nodesFrom i n s) ≡ nodesFrom i k s
     from-left = let b = split-ends n more in ap (λ (j : ℕ). take j (nodesFrom i n s)) from-split ∙ take-from i n k s (omega arith)
@@ -43,7 +43,7 @@ module _ (H : List ℕ → List ℕ) (i n : ℕ) (s : List ℕ) where
   pub path-single : (m : ℕ) → n ≡ 1 → path H m (nodesFrom i n s) ≡ []
   path-single m e = ap (path H m) (from-one i n s e) ∙ path-one H m (nodeAt i s)
 
-  module _ (k : ℕ) (more : 1 < n) (cut : k ≡ split n) where
+  module _ (k : ℕ) (more : 1 < n) (at-split : k ≡ split n) where
     first : List (List ℕ)
     first = nodesFrom i k s
 
@@ -54,19 +54,19 @@ module _ (H : List ℕ → List ℕ) (i n : ℕ) (s : List ℕ) where
     pub root-parts : {x l r : List ℕ} → x ≡ H (1 ∷ (l ++ r)) → l ≡ root H (nodesFrom i k s) → r ≡ root H (nodesFrom (i + k) (n - k) s) → x ≡ root H (nodesFrom i n s)
     unfolding node
     root-parts e p q =
-        e ∙ ap₂ (node H) (p ∙ ap (root H) (sym (from-left i n s k more cut))) (q ∙ ap (root H) (sym (from-right i n s k more cut)))
-        ∙ sym (root-split H (nodesFrom i n s) (from-more i n s k more cut))
+        e ∙ ap₂ (node H) (p ∙ ap (root H) (sym (from-left i n s k more at-split))) (q ∙ ap (root H) (sym (from-right i n s k more at-split)))
+        ∙ sym (root-split H (nodesFrom i n s) (from-more i n s k more at-split))
 
     -- PATH
     pub path-first : (m : ℕ) → m < k → path H m (nodesFrom i n s) ≡ path H m (nodesFrom i k s) ++ (root H (nodesFrom (i + k) (n - k) s) ∷ [])
     path-first m h =
-        let e = from-split i n s k more cut in
-        path-low H m (nodesFrom i n s) (from-more i n s k more cut) (omega arith) ∙ rw (from-left i n s k more cut, from-right i n s k more cut)
+        let e = from-split i n s k more at-split in
+        path-low H m (nodesFrom i n s) (from-more i n s k more at-split) (omega arith) ∙ rw (from-left i n s k more at-split, from-right i n s k more at-split)
 
     pub path-rest : (m : ℕ) → k ≤ m → path H m (nodesFrom i n s) ≡ path H (m - k) (nodesFrom (i + k) (n - k) s) ++ (root H (nodesFrom i k s) ∷ [])
     path-rest m h =
-        let e = from-split i n s k more cut in
-        path-high H m (nodesFrom i n s) (from-more i n s k more cut) (omega arith) ∙ rw (from-left i n s k more cut, from-right i n s k more cut, e)
+        let e = from-split i n s k more at-split in
+        path-high H m (nodesFrom i n s) (from-more i n s k more at-split) (omega arith) ∙ rw (from-left i n s k more at-split, from-right i n s k more at-split, e)
 
   -- SUBPROOF
   module _ (m : ℕ) (b : Bool) (z : 0 < m) where
@@ -76,7 +76,7 @@ module _ (H : List ℕ → List ℕ) (i n : ℕ) (s : List ℕ) where
     pub sub-unknown : m ≡ n → b ≡ false → subproof H m (nodesFrom i n s) b ≡ root H (nodesFrom i n s) ∷ []
     sub-unknown e t = sub-all H m (nodesFrom i n s) b z (e ∙ sym (from-length i n s)) ∙ rw t
 
-    module _ (k : ℕ) (lt : m < n) (cut : k ≡ split n) where
+    module _ (k : ℕ) (lt : m < n) (at-split : k ≡ split n) where
       some : 1 < n
       some = omega arith
 
@@ -85,13 +85,13 @@ module _ (H : List ℕ → List ℕ) (i n : ℕ) (s : List ℕ) where
 
       pub sub-first : m ≤ k → subproof H m (nodesFrom i n s) b ≡ subproof H m (nodesFrom i k s) b ++ (root H (nodesFrom (i + k) (n - k) s) ∷ [])
       sub-first h =
-          let e = from-split i n s k some cut in
-          sub-low H m (nodesFrom i n s) b z inner (omega arith) ∙ rw (from-left i n s k some cut, from-right i n s k some cut)
+          let e = from-split i n s k some at-split in
+          sub-low H m (nodesFrom i n s) b z inner (omega arith) ∙ rw (from-left i n s k some at-split, from-right i n s k some at-split)
 
       pub sub-rest : k < m → subproof H m (nodesFrom i n s) b ≡ subproof H (m - k) (nodesFrom (i + k) (n - k) s) false ++ (root H (nodesFrom i k s) ∷ [])
       sub-rest h =
-          let e = from-split i n s k some cut in
-          sub-high H m (nodesFrom i n s) b z inner (omega arith) ∙ rw (from-left i n s k some cut, from-right i n s k some cut, e)
+          let e = from-split i n s k some at-split in
+          sub-high H m (nodesFrom i n s) b z inner (omega arith) ∙ rw (from-left i n s k some at-split, from-right i n s k some at-split, e)
 
 -- a path q of one more hash h than p
 pub record Grows (p q : List (List ℕ)) (h : List ℕ) : Type 0 where
@@ -108,23 +108,23 @@ module _ (H : List ℕ → List ℕ) (H32 : (s : List ℕ) → length (H s) ≡ 
   root-bytes : (j l : ℕ) → 32 * (j + l) ≤ length s → length (root H (nodesFrom j l s)) ≡ 32
   root-bytes j l h = root-32 H H32 (nodesFrom j l s) (all-from j l s h)
 
-  module _ (k : ℕ) (more : 1 < n) (cut : k ≡ split n) (m : ℕ) where
+  module _ (k : ℕ) (more : 1 < n) (at-split : k ≡ split n) (m : ℕ) where
     pub path-grows-first : m < k → Grows (path H m (nodesFrom i k s)) (path H m (nodesFrom i n s)) (root H (nodesFrom (i + k) (n - k) s))
-    path-grows-first h = let b = split-ends n more in grows _ _ _ (path-first H i n s k more cut m h) (root-bytes (i + k) (n - k) (omega arith))
+    path-grows-first h = let b = split-ends n more in grows _ _ _ (path-first H i n s k more at-split m h) (root-bytes (i + k) (n - k) (omega arith))
 
     pub path-grows-rest : k ≤ m → Grows (path H (m - k) (nodesFrom (i + k) (n - k) s)) (path H m (nodesFrom i n s)) (root H (nodesFrom i k s))
-    path-grows-rest h = let b = split-ends n more in grows _ _ _ (path-rest H i n s k more cut m h) (root-bytes i k (omega arith))
+    path-grows-rest h = let b = split-ends n more in grows _ _ _ (path-rest H i n s k more at-split m h) (root-bytes i k (omega arith))
 
   module _ (m : ℕ) (b : Bool) (z : 0 < m) where
     pub sub-grows-all : m ≡ n → b ≡ false → Grows [] (subproof H m (nodesFrom i n s) b) (root H (nodesFrom i n s))
     sub-grows-all e t = grows _ _ _ (sub-unknown H i n s m b z e t) (root-bytes i n room)
 
-    module _ (k : ℕ) (lt : m < n) (cut : k ≡ split n) where
+    module _ (k : ℕ) (lt : m < n) (at-split : k ≡ split n) where
       pub sub-grows-first : m ≤ k → Grows (subproof H m (nodesFrom i k s) b) (subproof H m (nodesFrom i n s) b) (root H (nodesFrom (i + k) (n - k) s))
-      sub-grows-first h = let e = split-ends n (omega arith) in grows _ _ _ (sub-first H i n s m b z k lt cut h) (root-bytes (i + k) (n - k) (omega arith))
+      sub-grows-first h = let e = split-ends n (omega arith) in grows _ _ _ (sub-first H i n s m b z k lt at-split h) (root-bytes (i + k) (n - k) (omega arith))
 
       pub sub-grows-rest : k < m → Grows (subproof H (m - k) (nodesFrom (i + k) (n - k) s) false) (subproof H m (nodesFrom i n s) b) (root H (nodesFrom i k s))
-      sub-grows-rest h = let e = split-ends n (omega arith) in grows _ _ _ (sub-rest H i n s m b z k lt cut h) (root-bytes i k (omega arith))
+      sub-grows-rest h = let e = split-ends n (omega arith) in grows _ _ _ (sub-rest H i n s m b z k lt at-split h) (root-bytes i k (omega arith))
 
 -- writing hashes one behind the other
 pub over-none : (p : List (List ℕ)) (o : List ℕ) → p ≡ [] → (0 ≡ length (joined p)) × (o ≡ over (joined p) o)

@@ -184,13 +184,13 @@ module _ (H : List ℕ → List ℕ) where
         rw (shape-fork n more, le-ltb m (size (shape (split n))) (omega arith), e)
 
   -- what a consistency path yields: once for both roots
-  module _ (beside : List ℕ → List ℕ → List ℕ) (m n : ℕ) (b : Bool) (f : List ℕ) (p : List (List ℕ)) where
-    yields-whole : (s : Shape) → m ≡ size s → consistencyRootOf H beside s m b f p ≡ cond b f (last p)
+  module _ (withLater : List ℕ → List ℕ → List ℕ) (m n : ℕ) (b : Bool) (f : List ℕ) (p : List (List ℕ)) where
+    yields-whole : (s : Shape) → m ≡ size s → consistencyRootOf H withLater s m b f p ≡ cond b f (last p)
     unfolding consistencyRootOf size
     yields-whole one e = refl
     yields-whole (fork a c) e = rw (eq-eqb m (size a + size c) e)
 
-    pub either-all : 0 < m → m ≡ n → consistencyRootOf H beside (shape n) m b f p ≡ cond b f (last p)
+    pub either-all : 0 < m → m ≡ n → consistencyRootOf H withLater (shape n) m b f p ≡ cond b f (last p)
     either-all z e = yields-whole (shape n) (e ∙ sym (size-shape n (omega arith)))
 
     module _ (some : 0 < m) (lt : m < n) where
@@ -200,13 +200,13 @@ module _ (H : List ℕ → List ℕ) where
       within : m < size (shape (split n)) + size (shape (n - split n))
       within = let s = split-ends n several in let u = size-left n several in let v = size-right n several in omega arith
 
-      pub either-low : m ≤ split n → consistencyRootOf H beside (shape n) m b f p ≡ beside (consistencyRootOf H beside (shape (split n)) m b f (init p)) (last p)
+      pub either-low : m ≤ split n → consistencyRootOf H withLater (shape n) m b f p ≡ withLater (consistencyRootOf H withLater (shape (split n)) m b f (init p)) (last p)
       unfolding consistencyRootOf
       either-low h =
           let z = size-left n several in
           rw (shape-fork n several, ne-eqb m (size (shape (split n)) + size (shape (n - split n))) (λ e. let q = within in omega arith), le-leb m (size (shape (split n))) (omega arith))
 
-      pub either-high : split n < m → consistencyRootOf H beside (shape n) m b f p ≡ node H (last p) (consistencyRootOf H beside (shape (n - split n)) (m - split n) false f (init p))
+      pub either-high : split n < m → consistencyRootOf H withLater (shape n) m b f p ≡ node H (last p) (consistencyRootOf H withLater (shape (n - split n)) (m - split n) false f (init p))
       unfolding consistencyRootOf
       either-high h =
           let z = size-left n several in

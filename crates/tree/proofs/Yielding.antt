@@ -23,47 +23,47 @@ module _ (H : List ℕ → List ℕ) (m n k : ℕ) (f : List ℕ) (j : ℕ) (s :
   pub included-few : n ≤ 1 → f ≡ inclusionRoot H m n f (firstNodes j s)
   included-few e = sym (yields-few H m n f (firstNodes j s) e)
 
-  module _ {x l r : List ℕ} (some : 0 < j) (more : 1 < n) (cut : k ≡ split n) (e : x ≡ H (1 ∷ (l ++ r))) where
+  module _ {x l r : List ℕ} (some : 0 < j) (more : 1 < n) (at-split : k ≡ split n) (e : x ≡ H (1 ∷ (l ++ r))) where
     pub included-low : m < k → l ≡ inclusionRoot H m k f (firstNodes (j - 1) s) → r ≡ nodeAt (j - 1) s → x ≡ inclusionRoot H m n f (firstNodes j s)
     unfolding node
     included-low h p q =
-        let y : l ≡ inclusionRoot H m (split n) f (init (firstNodes j s)) = p ∙ ap₂ (λ (i : ℕ) (z : List (List ℕ)). inclusionRoot H m i f z) cut (sym (init-first j s some)) in
+        let y : l ≡ inclusionRoot H m (split n) f (init (firstNodes j s)) = p ∙ ap₂ (λ (i : ℕ) (z : List (List ℕ)). inclusionRoot H m i f z) at-split (sym (init-first j s some)) in
         e ∙ ap₂ (node H) y (q ∙ sym (last-first j s some)) ∙ sym (yields-low H m n f (firstNodes j s) more (omega arith))
 
     pub included-high : k ≤ m → l ≡ nodeAt (j - 1) s → r ≡ inclusionRoot H (m - k) (n - k) f (firstNodes (j - 1) s) → x ≡ inclusionRoot H m n f (firstNodes j s)
     unfolding node
     included-high h p q =
-        let y : r ≡ inclusionRoot H (m - split n) (n - split n) f (init (firstNodes j s)) = q ∙ ap₂ (λ (i : ℕ) (z : List (List ℕ)). inclusionRoot H (m - i) (n - i) f z) cut (sym (init-first j s some)) in
+        let y : r ≡ inclusionRoot H (m - split n) (n - split n) f (init (firstNodes j s)) = q ∙ ap₂ (λ (i : ℕ) (z : List (List ℕ)). inclusionRoot H (m - i) (n - i) f z) at-split (sym (init-first j s some)) in
         e ∙ ap₂ (node H) (p ∙ sym (last-first j s some)) y ∙ sym (yields-high H m n f (firstNodes j s) more (omega arith))
 
   -- a consistency path, f being the first root: once for both roots
-  module _ (beside : List ℕ → List ℕ → List ℕ) (b : Bool) (z : 0 < m) where
+  module _ (withLater : List ℕ → List ℕ → List ℕ) (b : Bool) (z : 0 < m) where
     Here : List ℕ → Type 0
-    Here x = x ≡ consistencyRootOf H beside (shape n) m b f (firstNodes j s)
+    Here x = x ≡ consistencyRootOf H withLater (shape n) m b f (firstNodes j s)
 
     whole-known : m ≡ n → b ≡ true → Here f
     unfolding Here
-    whole-known e t = sym (either-all H beside m n b f (firstNodes j s) z e ∙ rw t)
+    whole-known e t = sym (either-all H withLater m n b f (firstNodes j s) z e ∙ rw t)
 
     whole-unknown : {x : List ℕ} → m ≡ n → b ≡ false → j ≡ subproofCount m n b → x ≡ nodeAt 0 s → Here x
     unfolding Here
     whole-unknown e t c p =
         let d : j ≡ 1 = c ∙ sub-all m n b e ∙ rw t in
         let i : 0 ≡ j - 1 = omega arith in
-        p ∙ ap (λ (y : ℕ). nodeAt y s) i ∙ sym (last-first j s (omega arith)) ∙ sym (either-all H beside m n b f (firstNodes j s) z e ∙ rw t)
+        p ∙ ap (λ (y : ℕ). nodeAt y s) i ∙ sym (last-first j s (omega arith)) ∙ sym (either-all H withLater m n b f (firstNodes j s) z e ∙ rw t)
 
-    module _ {x l r : List ℕ} (some : 0 < j) (lt : m < n) (cut : k ≡ split n) where
-      part-low : m ≤ k → x ≡ beside l r → l ≡ consistencyRootOf H beside (shape k) m b f (firstNodes (j - 1) s) → r ≡ nodeAt (j - 1) s → Here x
+    module _ {x l r : List ℕ} (some : 0 < j) (lt : m < n) (at-split : k ≡ split n) where
+      part-low : m ≤ k → x ≡ withLater l r → l ≡ consistencyRootOf H withLater (shape k) m b f (firstNodes (j - 1) s) → r ≡ nodeAt (j - 1) s → Here x
       unfolding Here
       part-low h e p q =
-          let y : l ≡ consistencyRootOf H beside (shape (split n)) m b f (init (firstNodes j s)) = p ∙ ap₂ (λ (i : ℕ) (w : List (List ℕ)). consistencyRootOf H beside (shape i) m b f w) cut (sym (init-first j s some)) in
-          e ∙ ap₂ beside y (q ∙ sym (last-first j s some)) ∙ sym (either-low H beside m n b f (firstNodes j s) z lt (omega arith))
+          let y : l ≡ consistencyRootOf H withLater (shape (split n)) m b f (init (firstNodes j s)) = p ∙ ap₂ (λ (i : ℕ) (w : List (List ℕ)). consistencyRootOf H withLater (shape i) m b f w) at-split (sym (init-first j s some)) in
+          e ∙ ap₂ withLater y (q ∙ sym (last-first j s some)) ∙ sym (either-low H withLater m n b f (firstNodes j s) z lt (omega arith))
 
-      part-high : k < m → x ≡ H (1 ∷ (l ++ r)) → l ≡ nodeAt (j - 1) s → r ≡ consistencyRootOf H beside (shape (n - k)) (m - k) false f (firstNodes (j - 1) s) → Here x
+      part-high : k < m → x ≡ H (1 ∷ (l ++ r)) → l ≡ nodeAt (j - 1) s → r ≡ consistencyRootOf H withLater (shape (n - k)) (m - k) false f (firstNodes (j - 1) s) → Here x
       unfolding Here node
       part-high h e p q =
-          let y : r ≡ consistencyRootOf H beside (shape (n - split n)) (m - split n) false f (init (firstNodes j s)) = q ∙ ap₂ (λ (i : ℕ) (w : List (List ℕ)). consistencyRootOf H beside (shape (n - i)) (m - i) false f w) cut (sym (init-first j s some)) in
-          e ∙ ap₂ (node H) (p ∙ sym (last-first j s some)) y ∙ sym (either-high H beside m n b f (firstNodes j s) z lt (omega arith))
+          let y : r ≡ consistencyRootOf H withLater (shape (n - split n)) (m - split n) false f (init (firstNodes j s)) = q ∙ ap₂ (λ (i : ℕ) (w : List (List ℕ)). consistencyRootOf H withLater (shape (n - i)) (m - i) false f w) at-split (sym (init-first j s some)) in
+          e ∙ ap₂ (node H) (p ∙ sym (last-first j s some)) y ∙ sym (either-high H withLater m n b f (firstNodes j s) z lt (omega arith))
 
   module _ (b : Bool) (z : 0 < m) where
     pub both-known : m ≡ n → b ≡ true → (f ≡ oldRoot H m n b f (firstNodes j s)) × (f ≡ newRoot H m n b f (firstNodes j s))
@@ -74,16 +74,16 @@ module _ (H : List ℕ → List ℕ) (m n k : ℕ) (f : List ℕ) (j : ℕ) (s :
     unfolding oldRoot newRoot Here
     both-unknown e t c p = (whole-unknown (λ x y. x) b z e t c p, whole-unknown (node H) b z e t c p)
 
-    module _ (some : 0 < j) (lt : m < n) (cut : k ≡ split n) where
+    module _ (some : 0 < j) (lt : m < n) (at-split : k ≡ split n) where
       pub both-low : {x l w r : List ℕ} → m ≤ k → (x ≡ oldRoot H m k b f (firstNodes (j - 1) s)) × (l ≡ newRoot H m k b f (firstNodes (j - 1) s)) → r ≡ nodeAt (j - 1) s → w ≡ H (1 ∷ (l ++ r)) →
           (x ≡ oldRoot H m n b f (firstNodes j s)) × (w ≡ newRoot H m n b f (firstNodes j s))
       unfolding oldRoot newRoot Here node
-      both-low h p q e = (part-low (λ x y. x) b z some lt cut h refl (p .0) refl, part-low (node H) b z some lt cut h e (p .1) q)
+      both-low h p q e = (part-low (λ x y. x) b z some lt at-split h refl (p .0) refl, part-low (node H) b z some lt at-split h e (p .1) q)
 
       pub both-high : {x y l v w : List ℕ} → k < m → (x ≡ oldRoot H (m - k) (n - k) false f (firstNodes (j - 1) s)) × (y ≡ newRoot H (m - k) (n - k) false f (firstNodes (j - 1) s)) → l ≡ nodeAt (j - 1) s → v ≡ H (1 ∷ (l ++ x)) → w ≡ H (1 ∷ (l ++ y)) →
           (v ≡ oldRoot H m n b f (firstNodes j s)) × (w ≡ newRoot H m n b f (firstNodes j s))
       unfolding oldRoot newRoot Here
-      both-high h p q e d = (part-high (λ x y. x) b z some lt cut h e q (p .0), part-high (node H) b z some lt cut h d q (p .1))
+      both-high h p q e d = (part-high (λ x y. x) b z some lt at-split h e q (p .0), part-high (node H) b z some lt at-split h d q (p .1))
 
 -- what the first hashes of any buffer yield, and back
 module _ (H : List ℕ → List ℕ) (m n : ℕ) (f s : List ℕ) where

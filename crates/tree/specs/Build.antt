@@ -19,9 +19,9 @@ pub data Outcome : Type 0 where
   wrote : List ℕ → Outcome
 
 -- what it tells: the number, or how many bytes were written
-unfoldable pub report : Outcome → Answer ℕ
-report (refused n) = Answer.refused n
-report (wrote w) = done (length w)
+unfoldable pub buildReport : Outcome → Told ℕ
+buildReport (refused n) = Told.refused n
+buildReport (wrote w) = done (length w)
 
 -- what each case of the code's answer tells
 abbrev pub building : Built → Answer ℕ

@@ -1,5 +1,15 @@
 -- The Merkle tree of RFC 9162, section 2.1, over any hash H. Each definition follows the shape of the list; specs/Equations.antt has
 -- the RFC's own equations, which are proved of them. Assumes nothing: these are definitions.
+--
+-- The RFC's tree of seven leaves (section 2.1.5) by the names of its nodes: the leaf hashes are a b c d e f j.
+--
+--                 root = kl
+--              /             \
+--          k = gh            l = ij
+--         /      \          /      \
+--      g = ab  h = cd    i = ef     j
+--       / \     / \       / \
+--      a   b   c   d     e   f
 use mathlib.Core.Bool.{Bool, true, false, cond}
 use mathlib.Core.List.{List, [], _∷_, _++_, map}
 use Prim.Native.Nat.{ℕ, _+_, _-_}

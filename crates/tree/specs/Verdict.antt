@@ -22,6 +22,10 @@ judged one two path outside count agrees =
     (cond (not (eqb (length path / 32) count)) 7
     (cond (not agrees) 8 0)))))
 
+-- a verdict's number comes before what follows it, as the refusal of any answer
+unfoldable pub unless : {A : Type 0} → (ℕ → A) → ℕ → A → A
+unless refuse number rest = cond (eqb number 0) rest (refuse number)
+
 -- a size of 0 or above the largest, or a place that is not below it
 unfoldable pub noPlace : ℕ → ℕ → Bool
 noPlace place size = eqb size 0 || (ltb largestSize size || leb size place)

@@ -32,13 +32,14 @@ module _ (H : List ℕ → List ℕ) where
   inclusionRoot m n h p = inclusionRootOf (shape n) m h p
 
   -- a root that a consistency path p from m yields. Where the first m leaves are known, their root f stands for them, as it does where m
-  -- is a power of two. `beside x y` is what x, the root of the part that holds them, becomes beside y, the root of a part of later leaves
+  -- is a power of two. `withLater x y` is what x, the root of the part that holds them, becomes with y, the root of a part of later leaves,
+  -- to its right
   unfoldable pub consistencyRootOf : (List ℕ → List ℕ → List ℕ) → Shape → ℕ → Bool → List ℕ → List (List ℕ) → List ℕ
-  consistencyRootOf beside one m known f p = cond known f (last p)
-  consistencyRootOf beside (fork a b) m known f p =
+  consistencyRootOf withLater one m known f p = cond known f (last p)
+  consistencyRootOf withLater (fork a b) m known f p =
       cond (eqb m (size a + size b)) (cond known f (last p))
-      (cond (leb m (size a)) (beside (consistencyRootOf beside a m known f (init p)) (last p))
-      (node H (last p) (consistencyRootOf beside b (m - size a) false f (init p))))
+      (cond (leb m (size a)) (withLater (consistencyRootOf withLater a m known f (init p)) (last p))
+      (node H (last p) (consistencyRootOf withLater b (m - size a) false f (init p))))
 
   -- the root of the first m leaves: the later ones stay out
   unfoldable pub oldRoot : ℕ → ℕ → Bool → List ℕ → List (List ℕ) → List ℕ

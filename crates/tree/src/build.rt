@@ -15,7 +15,7 @@ use hash::Hashed;
 ghost use mathlib.Core.Path.{_≡_};
 ghost use lib.ListN.{length, replicate};
 ghost use Rattle.hash.specs.Digest.{sha256};
-ghost use Rattle.tree.specs.Build.{building, report, output, unfit, rootBuilt, inclusionBuilt, consistencyBuilt, rootNumber, rootBytes};
+ghost use Rattle.tree.specs.Build.{building, buildReport, output, unfit, rootBuilt, inclusionBuilt, consistencyBuilt, rootNumber, rootBytes};
 
 // What a builder answers: how many bytes it wrote, or the number of its refusal.
 pub enum Built {
@@ -66,8 +66,9 @@ pub fn root_of(leaves: &[u8]) -> Hashed
 
 // Writes the root of joined leaf hashes.
 pub fn root(leaves: &[u8], out: &mut [u8]) -> Built
-    ensures { λ r. ⌜ building r ≡ report (rootBuilt sha256 (now (leaves .entry)) (length (now (out .entry)))) ⌝ }
-    ensures { λ _. ⌜ now (out .exit) ≡ output (rootBuilt sha256 (now (leaves .entry)) (length (now (out .entry)))) (now (out .entry)) ⌝ }
+    ensures { λ r. ⌜
+        (let o = rootBuilt sha256 (now (leaves .entry)) (length (now (out .entry))) in
+        (building r ≡ buildReport o) × (now (out .exit) ≡ output o (now (out .entry)))) ⌝ }
 {
     if bad_leaves(leaves) {
         return Built::Refused(JOINED);
@@ -83,8 +84,9 @@ pub fn root(leaves: &[u8], out: &mut [u8]) -> Built
 
 // Writes the inclusion path of a place.
 pub fn inclusion_path(leaves: &[u8], place: u64, out: &mut [u8]) -> Built
-    ensures { λ r. ⌜ building r ≡ report (inclusionBuilt sha256 (now (leaves .entry)) place (length (now (out .entry)))) ⌝ }
-    ensures { λ _. ⌜ now (out .exit) ≡ output (inclusionBuilt sha256 (now (leaves .entry)) place (length (now (out .entry)))) (now (out .entry)) ⌝ }
+    ensures { λ r. ⌜
+        (let o = inclusionBuilt sha256 (now (leaves .entry)) place (length (now (out .entry))) in
+        (building r ≡ buildReport o) × (now (out .exit) ≡ output o (now (out .entry)))) ⌝ }
 {
     if bad_leaves(leaves) {
         return Built::Refused(JOINED);
@@ -101,8 +103,9 @@ pub fn inclusion_path(leaves: &[u8], place: u64, out: &mut [u8]) -> Built
 
 // Writes the consistency path from a first size to the size of the list.
 pub fn consistency_path(leaves: &[u8], first: u64, out: &mut [u8]) -> Built
-    ensures { λ r. ⌜ building r ≡ report (consistencyBuilt sha256 (now (leaves .entry)) first (length (now (out .entry)))) ⌝ }
-    ensures { λ _. ⌜ now (out .exit) ≡ output (consistencyBuilt sha256 (now (leaves .entry)) first (length (now (out .entry)))) (now (out .entry)) ⌝ }
+    ensures { λ r. ⌜
+        (let o = consistencyBuilt sha256 (now (leaves .entry)) first (length (now (out .entry))) in
+        (building r ≡ buildReport o) × (now (out .exit) ≡ output o (now (out .entry)))) ⌝ }
 {
     if bad_leaves(leaves) {
         return Built::Refused(JOINED);

@@ -1,7 +1,7 @@
 // Recursions on the two parts of a list of leaf hashes that are joined in a buffer: n of them, from an index on. The count falls.
 use super::nodes::node_at;
 use super::nodes::put_node;
-use super::split::cut;
+use super::split::split_of;
 use hash::Digest;
 ghost use mathlib.Core.Path.{_≡_};
 ghost use Prim.Native.Nat.{_+_, _*_, _≤_, _<_};
@@ -20,7 +20,7 @@ pub(crate) fn part_root(leaves: &[u8], from: usize, n: usize) -> Digest
     if n == 1 {
         return node_at(leaves, from);
     }
-    let k = cut(n as u64) as usize;
+    let k = split_of(n as u64) as usize;
     let low = part_root(leaves, from, k);
     let high = part_root(leaves, from + k, n - k);
     hash::node(low, high)
@@ -38,14 +38,18 @@ pub(crate) fn put_root(leaves: &[u8], from: usize, n: usize, out: &mut [u8], at:
 
 // Writes the inclusion path of a place of those n, joined, PATH of section 2.1.3.1, and tells how many bytes it is.
 pub(crate) fn path_into(leaves: &[u8], from: usize, n: usize, place: usize, out: &mut [u8]) -> usize
-    requires { ⌜ (place < n) × (32 * (from + n) ≤ length (now leaves)) × (length (joined (path sha256 place (nodesFrom from n (now leaves)))) ≤ length (now out)) ⌝ }
-    ensures { λ r. ⌜ r ≡ length (joined (path sha256 place (nodesFrom from n (now (leaves .entry))))) ⌝ }
-    ensures { λ _. ⌜ now (out .exit) ≡ over (joined (path sha256 place (nodesFrom from n (now (leaves .entry))))) (now (out .entry)) ⌝ }
+    requires { ⌜
+        (place < n)
+        × (32 * (from + n) ≤ length (now leaves))
+        × (length (joined (path sha256 place (nodesFrom from n (now leaves)))) ≤ length (now out)) ⌝ }
+    ensures { λ r. ⌜
+        (let w = joined (path sha256 place (nodesFrom from n (now (leaves .entry)))) in
+        (r ≡ length w) × (now (out .exit) ≡ over w (now (out .entry)))) ⌝ }
 {
     if n <= 1 {
         return 0;
     }
-    let k = cut(n as u64) as usize;
+    let k = split_of(n as u64) as usize;
     if place < k {
         let c = path_into(leaves, from, k, place, out);
         return put_root(leaves, from + k, n - k, out, c);
@@ -63,9 +67,14 @@ pub(crate) fn proof_into(
     known: bool,
     out: &mut [u8],
 ) -> usize
-    requires { ⌜ (0 < m) × (m ≤ n) × (32 * (from + n) ≤ length (now leaves)) × (length (joined (subproof sha256 m (nodesFrom from n (now leaves)) known)) ≤ length (now out)) ⌝ }
-    ensures { λ r. ⌜ r ≡ length (joined (subproof sha256 m (nodesFrom from n (now (leaves .entry))) known)) ⌝ }
-    ensures { λ _. ⌜ now (out .exit) ≡ over (joined (subproof sha256 m (nodesFrom from n (now (leaves .entry))) known)) (now (out .entry)) ⌝ }
+    requires { ⌜
+        (0 < m)
+        × (m ≤ n)
+        × (32 * (from + n) ≤ length (now leaves))
+        × (length (joined (subproof sha256 m (nodesFrom from n (now leaves)) known)) ≤ length (now out)) ⌝ }
+    ensures { λ r. ⌜
+        (let w = joined (subproof sha256 m (nodesFrom from n (now (leaves .entry))) known) in
+        (r ≡ length w) × (now (out .exit) ≡ over w (now (out .entry)))) ⌝ }
 {
     if m == n {
         if known {
@@ -73,7 +82,7 @@ pub(crate) fn proof_into(
         }
         return put_root(leaves, from, n, out, 0);
     }
-    let k = cut(n as u64) as usize;
+    let k = split_of(n as u64) as usize;
     if m <= k {
         let c = proof_into(leaves, from, k, m, known, out);
         return put_root(leaves, from + k, n - k, out, c);

@@ -4,7 +4,7 @@ ghost use Prim.Native.Nat.{_+_, _-_, _≤_, _<_};
 ghost use Rattle.tree.specs.Split.{split};
 
 // The largest power of two smaller than n, or 1 where n has no two parts. No size is doubled: 2^63 is the largest answer.
-pub fn cut(n: u64) -> u64
+pub fn split_of(n: u64) -> u64
     ensures { λ r. ⌜ (r ≡ split n) × (0 < r) × (r ≤ 1 + (n - 2)) ⌝ }
 {
     if n <= 1 {

@@ -3,7 +3,7 @@
 use super::count::inclusion_count;
 use super::count::subproof_count;
 use super::nodes::node_at;
-use super::split::cut;
+use super::split::split_of;
 use hash::Digest;
 ghost use mathlib.Core.Path.{_≡_};
 ghost use Prim.Native.Nat.{_*_, _≤_, _<_};
@@ -27,7 +27,7 @@ pub(crate) fn inclusion_root(
     if size <= 1 {
         return leaf;
     }
-    let k = cut(size);
+    let k = split_of(size);
     let c = count - 1;
     if place < k {
         let low = inclusion_root(leaf, place, k, path, c);
@@ -67,8 +67,10 @@ pub(crate) fn consistency_roots(
     count: usize,
 ) -> Roots
     requires { ⌜ (0 < m) × (m ≤ n) × (count ≡ subproofCount m n known) × (32 * count ≤ length (now path)) ⌝ }
-    ensures { λ r. ⌜ r .old .bytes ≡ oldRoot sha256 m n known (first .bytes) (firstNodes count (now (path .entry))) ⌝ }
-    ensures { λ r. ⌜ r .new .bytes ≡ newRoot sha256 m n known (first .bytes) (firstNodes count (now (path .entry))) ⌝ }
+    ensures { λ r. ⌜
+        (let H = sha256 in
+        let p = firstNodes count (now (path .entry)) in
+        (r .old .bytes ≡ oldRoot H m n known (first .bytes) p) × (r .new .bytes ≡ newRoot H m n known (first .bytes) p)) ⌝ }
 {
     if m == n {
         if known {
@@ -83,7 +85,7 @@ pub(crate) fn consistency_roots(
             new: only,
         };
     }
-    let k = cut(n);
+    let k = split_of(n);
     let c = count - 1;
     if m <= k {
         let low = consistency_roots(first, m, k, known, path, c);
@@ -108,8 +110,10 @@ pub(crate) fn consistency_roots(
 // Both roots by as many nodes as the definition counts, of any path; the first root for both where a first size of 0 or above the second
 // has no path, or the path has fewer nodes.
 pub fn yielded_roots(first: Digest, m: u64, n: u64, known: bool, path: &[u8]) -> Roots
-    ensures { λ r. ⌜ r .old .bytes ≡ yieldedOld sha256 m n known (first .bytes) (now (path .entry)) ⌝ }
-    ensures { λ r. ⌜ r .new .bytes ≡ yieldedNew sha256 m n known (first .bytes) (now (path .entry)) ⌝ }
+    ensures { λ r. ⌜
+        (let H = sha256 in
+        (r .old .bytes ≡ yieldedOld H m n known (first .bytes) (now (path .entry)))
+        × (r .new .bytes ≡ yieldedNew H m n known (first .bytes) (now (path .entry)))) ⌝ }
 {
     let count = subproof_count(m, n, known);
     if m == 0 || n < m || path.len() / 32 < count {

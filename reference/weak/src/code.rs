@@ -19,7 +19,7 @@ pub const COMPARED: &[&str] = &[
     "tree::nodes::copy",
     "tree::nodes::node_at",
     "tree::nodes::equals",
-    "tree::split::cut",
+    "tree::split::split_of",
     "tree::yields::yielded_root",
     "tree::yields::yielded_roots",
     "growing::new",
@@ -63,7 +63,7 @@ pub struct Two {
 pub type Wrote = Result<usize, u64>;
 
 pub trait Code: Sync {
-    fn cut(&self, n: u64) -> u64;
+    fn split_of(&self, n: u64) -> u64;
     fn inclusion_count(&self, place: u64, size: u64) -> usize;
     fn subproof_count(&self, first: u64, second: u64, known: bool) -> usize;
     fn node_at(&self, joined: &[u8], at: usize) -> Hash;

@@ -45,8 +45,8 @@ fn answered(of: auditor::Answered) -> (u64, reference::auditor::Stored) {
 }
 
 impl crate::code::Code for Entries {
-    fn cut(&self, n: u64) -> u64 {
-        tree::split::cut(n)
+    fn split_of(&self, n: u64) -> u64 {
+        tree::split::split_of(n)
     }
 
     fn inclusion_count(&self, place: u64, size: u64) -> usize {

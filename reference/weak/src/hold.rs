@@ -523,7 +523,7 @@ impl<'a> Hold<'a> {
         });
         self.same("copy", after, found, (joined, start, length, out, to));
         let n = if random.one_in(2) { near_power(random) } else { random.draw() >> random.below(64) }.max(2);
-        self.same("cut", tree::split(n), tried(|| code.cut(n)), n);
+        self.same("split_of", tree::split(n), tried(|| code.split_of(n)), n);
         for other in [random.draw() >> random.below(64), n - 1, n, 0] {
             self.counts(other, n);
             self.counts(n, other);

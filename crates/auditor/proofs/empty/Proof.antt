@@ -1,11 +1,11 @@
 -- `auditor::empty` meets its contract. Assumes nothing.
 use borrow.Author.Needs.{needs}
-use Rattle.auditor.specs.Held.{none}
+use Rattle.auditor.specs.Held.{emptyRecord}
 use Rattle.auditor.proofs.empty.Statement.{statement}
 use Rattle.auditor.proofs.empty.Tie as tie
 
 returns : tie.Need-returns
-unfolding none
+unfolding emptyRecord
 returns c = rw (c .before .no-id .ensures, c .no-root .ensures)
 
 pub empty-spec : {M : Type 1} → statement M

@@ -9,7 +9,7 @@ use Rattle.growing.proofs.new.Statement.{statement}
 use Rattle.growing.proofs.new.Tie as tie
 
 returns : tie.Need-returns
-returns c = ap (λ (h : Digest). grown (replicate mostHashes h) 0) (c .none .ensures)
+returns c = ap (λ (h : Digest). grown (replicate mostHashes h) 0) (c .no-hash .ensures)
 
 pub new-spec : {M : Type 1} → statement M
 new-spec = tie.close (tie.spec (λ c κs. search needs) returns)

@@ -5,7 +5,7 @@ use denote.Ref.{now}
 use borrow.Author.Needs.{needs}
 use Rattle.hash.specs.Digest.{sha256}
 use Rattle.auditor.specs.Heads.{headsOf}
-use Rattle.auditor.specs.Dispute.{refused, report, pairAfter}
+use Rattle.auditor.specs.Dispute.{refused, disputeReport, pairDisputed}
 use Rattle.auditor.proofs.Asking.{refused-1, taken-0}
 use Rattle.auditor.proofs.Telling.{refused-tells}
 use Rattle.auditor.proofs.Disputing.{first-long, second-long, first-refused, followed, lengths}

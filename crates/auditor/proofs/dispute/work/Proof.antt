@@ -10,11 +10,11 @@ use borrow.Author.Needs.{needs}
 use Rattle.hash.specs.Digest.{sha256}
 use Rattle.carry.specs.Forward.{carry, carrying}
 use Rattle.auditor.specs.Heads.{sizeOf, rootOf, pathOf, headsOf}
-use Rattle.auditor.specs.Dispute.{onward, longestPath, follow, report, pairAfter}
-use Rattle.octets.proofs.Putting.{over-start}
+use Rattle.auditor.specs.Dispute.{onward, longestPath, follow, disputeReport, pairDisputed}
+use Rattle.auditor.proofs.Copying.{over-start}
 use Rattle.auditor.proofs.Reading.{head-whole}
 use Rattle.auditor.proofs.Telling.{refused-tells, carried-refused, carried-collision, carried-path}
-use Rattle.auditor.proofs.Following.{Left, rest-is, left-end, left-cut, left-then}
+use Rattle.auditor.proofs.Following.{Left, rest-is, left-end, left-truncated, left-then}
 use Rattle.auditor.proofs.dispute.work.Statement.{statement}
 use Rattle.auditor.proofs.dispute.work.Tie as tie
 
@@ -45,7 +45,7 @@ returns : tie.Need-returns Inv-loop μ-loop
 returns c =
     let a = c .before .before .before .before .before .before .before .before .before .before .before .before .before .before .before .before .before .before .before .args in
     let L = c .before .before .before .before .loop in
-    let e = sym (L .inv .6) ∙ left-cut sha256 (a .place) (now (a .page1)) (now (a .page2)) (now (a .path2)) (now (a .heads)) (length (now (a .pair))) (L .at) (L .m) (L .held) (take (L .len) (L .path)) _ (rest-is (now (a .heads)) (L .at)) _ (c .before .head-bytes .ensures) (c .before .before .before .loop-test .taken) (c .if1 .taken) in
+    let e = sym (L .inv .6) ∙ left-truncated sha256 (a .place) (now (a .page1)) (now (a .page2)) (now (a .path2)) (now (a .heads)) (length (now (a .pair))) (L .at) (L .m) (L .held) (take (L .len) (L .path)) _ (rest-is (now (a .heads)) (L .at)) _ (c .before .head-bytes .ensures) (c .before .before .before .loop-test .taken) (c .if1 .taken) in
     let t = refused-tells _ 2 (now (a .pair)) e in
     (t .0, L .inv .5 ∙ t .1)
 
@@ -89,7 +89,7 @@ returns-3 c =
     let d = c .before .before .before .before .before .over-head .ensures in
     let e = turn (c .before .before .before .before .before) in
     let q = carried-collision _ _ (L .pair) (ap carrying (sym (c .enum-told .given .1)) ∙ d .0) in
-    (q .0 ∙ ap report (sym e), d .1 .1 ∙ q .1 ∙ ap₂ pairAfter (sym e) (L .inv .5))
+    (q .0 ∙ ap disputeReport (sym e), d .1 .1 ∙ q .1 ∙ ap₂ pairDisputed (sym e) (L .inv .5))
 
 size-of-requires : tie.Need-size-of-requires Inv-loop μ-loop
 size-of-requires c κs =
@@ -148,7 +148,7 @@ returns-4 c =
     let L = c .before .before .before .before .before .before .before .before .before .loop in
     let d = c .before .before .settle .ensures in
     let e = sym (L .inv .6) ∙ left-end sha256 (a .place) (now (a .page1)) (now (a .page2)) (now (a .path2)) (now (a .heads)) (length (now (a .pair))) (L .at) (L .m) (L .held) (take (L .len) (L .path)) (a .one .bytes) (a .two .bytes) (length (L .pair)) (c .before .before .before .before .before .before .before .before .loop-test .left) (c .before .before .before .before .before .before .before .before .before .before .before .before .before .before .before .before .before .before .before .before .before .before .before .before .pre .2) (c .before .before .before .before .before .before .before .before .before .before .before .before .before .before .before .before .before .before .before .before .before .before .before .before .pre .3) (L .inv .4) in
-    (d .0 ∙ ap report (sym e), d .1 ∙ ap₂ pairAfter (sym e) (L .inv .5))
+    (d .0 ∙ ap disputeReport (sym e), d .1 ∙ ap₂ pairDisputed (sym e) (L .inv .5))
 
 pub work-spec : {M : Type 1} → statement M
 work-spec =

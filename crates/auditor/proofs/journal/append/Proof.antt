@@ -5,9 +5,9 @@ use native.Mathlib.Omega.{arith}
 use lib.ListN.{length}
 use denote.Ref.{now}
 use borrow.Author.Needs.{needs}
-use Rattle.octets.specs.Answer.{done}
-use Rattle.auditor.specs.Journal.{report, journalAfter}
-use Rattle.auditor.proofs.Journaling.{head-length, root-short, path-long, path-cut, full, fits, refused-tells}
+use Rattle.sha256.specs.Told.{done}
+use Rattle.auditor.specs.Journal.{appendReport, journalAfter}
+use Rattle.auditor.proofs.Journaling.{head-length, root-short, path-long, path-part, full, fits, refused-tells}
 use Rattle.auditor.proofs.journal.append.Statement.{statement}
 use Rattle.auditor.proofs.journal.append.Tie as tie
 
@@ -24,7 +24,7 @@ returns-2 c =
 returns-3 : tie.Need-returns-3
 returns-3 c =
     let a = c .before .before .before .before .before .before .args in
-    refused-tells (a .used) _ _ (now (a .journal)) (path-cut (length (now (a .journal))) (a .used) (a .size) (now (a .root)) (now (a .path)) (c .before .before .if1 .left) (c .before .if2 .left) (c .if3 .taken))
+    refused-tells (a .used) _ _ (now (a .journal)) (path-part (length (now (a .journal))) (a .used) (a .size) (now (a .root)) (now (a .path)) (c .before .before .if1 .left) (c .before .if2 .left) (c .if3 .taken))
 
 returns-4 : tie.Need-returns-4
 returns-4 c =
@@ -37,7 +37,7 @@ returns-5 c =
     refused-tells (a .used) _ _ (now (a .journal)) (full (length (now (a .journal))) (a .used) (a .size) (now (a .root)) (now (a .path)) (c .before .before .before .before .if1 .left) (c .before .before .before .if2 .left) (c .before .before .if3 .left) (omega (arith, c .if5 .taken, c .before .if4 .left)))
 
 returns-6 : tie.Need-returns-6
-unfolding report journalAfter
+unfolding appendReport journalAfter
 returns-6 c =
     let d = c .before .before .before .before in
     let root-32 = d .before .before .before .before .if1 .left in

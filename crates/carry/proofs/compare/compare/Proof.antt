@@ -5,8 +5,8 @@ use lib.ListN.{length}
 use denote.Ref.{now}
 use borrow.Author.Needs.{needs}
 use Rattle.hash.specs.Digest.{sha256}
-use Rattle.carry.proofs.Pairing.{met-apart, met-alike}
-use Rattle.carry.proofs.Comparing.{accepted-proof, first-refused, second-refused, short, long, tells-refused, tells-same, tells-apart, met-bytes}
+use Rattle.carry.proofs.Pairing.{difference-apart, difference-alike}
+use Rattle.carry.proofs.Comparing.{accepted-proof, first-refused, second-refused, short, long, tells-refused, tells-same, tells-apart, difference-bytes}
 use Rattle.carry.proofs.compare.compare.Statement.{statement}
 use Rattle.carry.proofs.compare.compare.Tie as tie
 
@@ -37,8 +37,8 @@ node-at-requires c κs = search needs
 node-at-requires-2 : tie.Need-node-at-requires-2
 node-at-requires-2 c κs = search needs
 
-meet-requires : tie.Need-meet-requires
-meet-requires c κs =
+recompute-requires : tie.Need-recompute-requires
+recompute-requires c κs =
     let a = c .before .before .before .before .before .before .before .before .before .before .before .before .before .args in
     let p = accepted-proof sha256 (now (a .leaf1)) (a .place) (a .size) (now (a .root)) (now (a .path1)) (c .before .before .before .before .before .before .inclusion-verdict .ensures) (c .before .before .before .before .before .if1 .left) in
     let q = accepted-proof sha256 (now (a .leaf2)) (a .place) (a .size) (now (a .root)) (now (a .path2)) (c .before .before .before .before .inclusion-verdict2 .ensures) (c .before .before .before .if2 .left) in
@@ -55,18 +55,18 @@ returns-4 c =
     let a = c .before .before .before .before .before .before .before .before .before .before .before .before .before .before .before .before .before .before .before .before .before .before .before .args in
     let p = accepted-proof sha256 (now (a .leaf1)) (a .place) (a .size) (now (a .root)) (now (a .path1)) (c .before .before .before .before .before .before .before .before .before .before .before .before .before .before .before .before .inclusion-verdict .ensures) (c .before .before .before .before .before .before .before .before .before .before .before .before .before .before .before .if1 .left) in
     let q = accepted-proof sha256 (now (a .leaf2)) (a .place) (a .size) (now (a .root)) (now (a .path2)) (c .before .before .before .before .before .before .before .before .before .before .before .before .before .before .inclusion-verdict2 .ensures) (c .before .before .before .before .before .before .before .before .before .before .before .before .before .if2 .left) in
-    let f = met-bytes sha256 (a .place) (a .size) (now (a .leaf1)) (now (a .path1)) (now (a .leaf2)) (now (a .path2)) (c .before .before .before .before .before .before .before .before .before .meet .ensures .1 .1) (c .before .before .before .before .before .before .before .before .before .before .before .node-at .ensures) (p .0) (c .before .before .before .before .before .before .before .before .before .before .node-at2 .ensures) (q .0) (p .4 ∙ sym (q .4)) in
+    let f = difference-bytes sha256 (a .place) (a .size) (now (a .leaf1)) (now (a .path1)) (now (a .leaf2)) (now (a .path2)) (c .before .before .before .before .before .before .before .before .before .recompute .ensures .1 .1) (c .before .before .before .before .before .before .before .before .before .before .before .node-at .ensures) (p .0) (c .before .before .before .before .before .before .before .before .before .before .node-at2 .ensures) (q .0) (p .4 ∙ sym (q .4)) in
     let g = long sha256 (a .place) (a .size) (now (a .root)) (now (a .leaf1)) (now (a .path1)) (now (a .leaf2)) (now (a .path2)) (length (now (a .pair))) (c .before .before .before .before .before .before .before .before .before .before .before .before .before .before .before .before .inclusion-verdict .ensures) (c .before .before .before .before .before .before .before .before .before .before .before .before .before .before .before .if1 .left) (c .before .before .before .before .before .before .before .before .before .before .before .before .before .before .inclusion-verdict2 .ensures) (c .before .before .before .before .before .before .before .before .before .before .before .before .before .if2 .left) (c .before .before .before .before .before .before .before .before .before .before .before .before .if3 .left) in
-    tells-apart (now (a .pair)) g (sym f ∙ met-apart (c .before .before .before .before .before .before .before .before .before .meet .result) (c .before .before .before .before .before .before .before .before .if4 .taken)) (c .before .before .put-pair .ensures)
+    tells-apart (now (a .pair)) g (sym f ∙ difference-apart (c .before .before .before .before .before .before .before .before .before .recompute .result) (c .before .before .before .before .before .before .before .before .if4 .taken)) (c .before .before .put-pair .ensures)
 
 returns-5 : tie.Need-returns-5
 returns-5 c =
     let a = c .before .before .before .before .before .before .before .before .before .before .before .before .before .before .before .args in
     let p = accepted-proof sha256 (now (a .leaf1)) (a .place) (a .size) (now (a .root)) (now (a .path1)) (c .before .before .before .before .before .before .before .before .inclusion-verdict .ensures) (c .before .before .before .before .before .before .before .if1 .left) in
     let q = accepted-proof sha256 (now (a .leaf2)) (a .place) (a .size) (now (a .root)) (now (a .path2)) (c .before .before .before .before .before .before .inclusion-verdict2 .ensures) (c .before .before .before .before .before .if2 .left) in
-    let f = met-bytes sha256 (a .place) (a .size) (now (a .leaf1)) (now (a .path1)) (now (a .leaf2)) (now (a .path2)) (c .before .meet .ensures .1 .1) (c .before .before .before .node-at .ensures) (p .0) (c .before .before .node-at2 .ensures) (q .0) (p .4 ∙ sym (q .4)) in
+    let f = difference-bytes sha256 (a .place) (a .size) (now (a .leaf1)) (now (a .path1)) (now (a .leaf2)) (now (a .path2)) (c .before .recompute .ensures .1 .1) (c .before .before .before .node-at .ensures) (p .0) (c .before .before .node-at2 .ensures) (q .0) (p .4 ∙ sym (q .4)) in
     let g = long sha256 (a .place) (a .size) (now (a .root)) (now (a .leaf1)) (now (a .path1)) (now (a .leaf2)) (now (a .path2)) (length (now (a .pair))) (c .before .before .before .before .before .before .before .before .inclusion-verdict .ensures) (c .before .before .before .before .before .before .before .if1 .left) (c .before .before .before .before .before .before .inclusion-verdict2 .ensures) (c .before .before .before .before .before .if2 .left) (c .before .before .before .before .if3 .left) in
-    tells-same (now (a .pair)) g (sym f ∙ met-alike (c .before .meet .result) (c .if4 .left))
+    tells-same (now (a .pair)) g (sym f ∙ difference-alike (c .before .recompute .result) (c .if4 .left))
 
 pub compare-spec : {M : Type 1} → statement M
 compare-spec =
@@ -79,7 +79,7 @@ compare-spec =
     returns-3
     node-at-requires
     node-at-requires-2
-    meet-requires
+    recompute-requires
     put-pair-requires
     same-length
     returns-4

@@ -13,8 +13,8 @@ use Rattle.hash.proofs.Promises.{sha256-length}
 use Rattle.tree.specs.Count.{inclusionCount, consistencyCount}
 use Rattle.tree.specs.Joined.{joined}
 use Rattle.carry.specs.Inner.{pathAs}
-use Rattle.carry.proofs.Pairing.{met-apart, met-alike}
-use Rattle.carry.proofs.Carrying.{both, one-refused, fit-of, agree-of, accepted-by, path-short, pair-short, long, tells-refused, tells-apart, tells-path, met-walked, path-walked, pieces, counted-pieces, new-path}
+use Rattle.carry.proofs.Pairing.{difference-apart, difference-alike}
+use Rattle.carry.proofs.Carrying.{both, one-refused, fit-of, agree-of, accepted-by, path-short, pair-short, long, tells-refused, tells-apart, tells-path, difference-walked, path-walked, pieces, counted-pieces, new-path}
 use Rattle.carry.proofs.forward.carry.Statement.{statement}
 use Rattle.carry.proofs.forward.carry.Tie as tie
 
@@ -141,8 +141,8 @@ returns-5 c =
     let number : w .low + w .hashed + (q - w .high) ≡ inclusionCount (a .place) (a .n) =
     sym (counted-pieces (w .low) (w .hashed) (w .sibling .bytes) (w .high) (now (a .path)) (now (a .proof)) q len (o .2)) ∙ ap length p ∙ new-path sha256 sha256-length (now (a .leaf)) (a .place) (a .m) (a .n) (now (a .old)) (now (a .new)) (now (a .path)) (now (a .proof)) (y .0) (y .1) .1 in
     let g = long sha256 (now (a .leaf)) (a .place) (a .m) (a .n) (now (a .old)) (now (a .new)) (now (a .path)) (now (a .proof)) (length (now (a .out))) (length (now (a .pair))) (sym (y .0)) refl (sym (y .1)) refl (omega (arith, number, c .before .before .before .before .before .before .before .before .before .before .if3 .left)) (c .before .before .before .before .before .before .before .before .before .if4 .left) in
-    let d = met-walked sha256 (now (a .leaf)) (a .place) (a .m) (a .n) (now (a .old)) (now (a .path)) (now (a .proof)) t (c .before .before .before .before .before .before .before .before .before .before .before .before .before .before .before .before .before .before .before .node-at .ensures) (c .before .before .before .before .before .before .before .before .before .before .before .before .before .before .before .before .before .before .node-at2 .ensures) (s .1 .1 .1 .0) in
-    tells-apart _ (now (a .out)) (now (a .pair)) g (sym d ∙ met-apart (w .met) (c .before .before .before .before .before .before .before .before .if5 .taken)) (c .before .before .put-pair .ensures)
+    let d = difference-walked sha256 (now (a .leaf)) (a .place) (a .m) (a .n) (now (a .old)) (now (a .path)) (now (a .proof)) t (c .before .before .before .before .before .before .before .before .before .before .before .before .before .before .before .before .before .before .before .node-at .ensures) (c .before .before .before .before .before .before .before .before .before .before .before .before .before .before .before .before .before .before .node-at2 .ensures) (s .1 .1 .1 .0) in
+    tells-apart _ (now (a .out)) (now (a .pair)) g (sym d ∙ difference-apart (w .recomputed) (c .before .before .before .before .before .before .before .before .if5 .taken)) (c .before .before .put-pair .ensures)
 
 put-path-requires : tie.Need-put-path-requires
 unfolding pathAs
@@ -182,10 +182,10 @@ returns-6 c =
     let number : w .low + w .hashed + (q - w .high) ≡ inclusionCount (a .place) (a .n) =
     sym (counted-pieces (w .low) (w .hashed) (w .sibling .bytes) (w .high) (now (a .path)) (now (a .proof)) q len (o .2)) ∙ ap length p ∙ new-path sha256 sha256-length (now (a .leaf)) (a .place) (a .m) (a .n) (now (a .old)) (now (a .new)) (now (a .path)) (now (a .proof)) (y .0) (y .1) .1 in
     let g = long sha256 (now (a .leaf)) (a .place) (a .m) (a .n) (now (a .old)) (now (a .new)) (now (a .path)) (now (a .proof)) (length (now (a .out))) (length (now (a .pair))) (sym (y .0)) refl (sym (y .1)) refl (omega (arith, number, c .before .before .before .before .before .before .before .if3 .left)) (c .before .before .before .before .before .before .if4 .left) in
-    let d = met-walked sha256 (now (a .leaf)) (a .place) (a .m) (a .n) (now (a .old)) (now (a .path)) (now (a .proof)) t (c .before .before .before .before .before .before .before .before .before .before .before .before .before .before .before .before .node-at .ensures) (c .before .before .before .before .before .before .before .before .before .before .before .before .before .before .before .node-at2 .ensures) (s .1 .1 .1 .0) in
+    let d = difference-walked sha256 (now (a .leaf)) (a .place) (a .m) (a .n) (now (a .old)) (now (a .path)) (now (a .proof)) t (c .before .before .before .before .before .before .before .before .before .before .before .before .before .before .before .before .node-at .ensures) (c .before .before .before .before .before .before .before .before .before .before .before .before .before .before .before .node-at2 .ensures) (s .1 .1 .1 .0) in
     let u = take (32 * w .low) (now (a .path)) ++ (take (32 * w .hashed) (w .sibling .bytes) ++ drop (32 * w .high) (now (a .proof))) in
     let b = ap joined (sym p) ∙ pieces (w .low) (w .hashed) (w .sibling .bytes) (w .high) (now (a .path)) (now (a .proof)) q len (o .2) in
-    tells-path u (now (a .out)) (now (a .pair)) g (sym d ∙ met-alike (w .met) (c .before .before .before .before .before .if5 .left)) b (c .before .before .put-path .ensures .0) (c .before .before .put-path .ensures .1)
+    tells-path u (now (a .out)) (now (a .pair)) g (sym d ∙ difference-alike (w .recomputed) (c .before .before .before .before .before .if5 .left)) b (c .before .before .put-path .ensures .0) (c .before .before .put-path .ensures .1)
 
 pub carry-spec : {M : Type 1} → statement M
 carry-spec =

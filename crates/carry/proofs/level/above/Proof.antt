@@ -2,8 +2,8 @@
 use mathlib.Core.Path.{sym, ap, _∙_}
 use borrow.Author.Needs.{needs}
 use Rattle.hash.specs.Digest.{sha256}
-use Rattle.octets.proofs.Sameness.{same-true}
-use Rattle.carry.specs.Inner.{metAs}
+use Rattle.tree.proofs.Joining.{same-true}
+use Rattle.carry.specs.Inner.{differenceOf}
 use Rattle.carry.proofs.Pairing.{top-same, top-apart}
 use Rattle.carry.proofs.level.above.Statement.{statement}
 use Rattle.carry.proofs.level.above.Tie as tie
@@ -15,7 +15,7 @@ pairs-requires : tie.Need-pairs-requires
 pairs-requires c κs = search needs
 
 returns : tie.Need-returns
-unfolding metAs
+unfolding differenceOf
 returns c =
     let e = sym (c .before .before .before .before .before .pairs .ensures) ∙ c .before .before .before .before .if1 .taken in
     let n = c .before .before .before .before .before .before .node .ensures in
@@ -25,7 +25,7 @@ node-requires-2 : tie.Need-node-requires-2
 node-requires-2 c κs = search needs
 
 returns-2 : tie.Need-returns-2
-unfolding metAs
+unfolding differenceOf
 returns-2 c =
     let e = sym (c .before .before .pairs .ensures) ∙ c .before .if1 .left in
     ((c .before .before .before .node .ensures, c .node2 .ensures), sym (top-apart _ _ _ e))

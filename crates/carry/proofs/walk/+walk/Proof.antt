@@ -26,7 +26,7 @@ use Rattle.carry.proofs.walk.+walk.Lts-walk as walk-lts
 use Rattle.tree.proofs.yields.yielded_root.Reads as yielded-root-reads
 use Rattle.tree.proofs.yields.yielded_roots.Reads as yielded-roots-reads
 use Rattle.carry.proofs.level.start.Reads as start-reads
-use Rattle.tree.proofs.split.cut.Reads as cut-reads
+use Rattle.tree.proofs.split.split_of.Reads as split-reads
 use Rattle.tree.proofs.nodes.node_at.Reads as node-at-reads
 use Rattle.hash.proofs.node.Reads as node-reads
 use Rattle.carry.proofs.level.above.Reads as above-reads
@@ -43,10 +43,10 @@ abbrev walk-below : ℕ → In 2 walk-kinds.ps
 walk-below t = and 2 walk-kinds.ps (falls 2 walk-kinds.ps _<_ μ-walk t) walk.Pre
 
 abbrev calls : ℕ → walk-lts.Claims
-calls t = (yielded-root-reads.Asked, yielded-root-reads.Learnt, yielded-roots-reads.Asked, yielded-roots-reads.Learnt, start-reads.Asked, start-reads.Learnt, cut-reads.Asked, cut-reads.Learnt, node-at-reads.Asked, node-at-reads.Learnt, walk-below t, walk.Post, node-reads.Asked, node-reads.Learnt, above-reads.Asked, above-reads.Learnt)
+calls t = (yielded-root-reads.Asked, yielded-root-reads.Learnt, yielded-roots-reads.Asked, yielded-roots-reads.Learnt, start-reads.Asked, start-reads.Learnt, split-reads.Asked, split-reads.Learnt, node-at-reads.Asked, node-at-reads.Learnt, walk-below t, walk.Post, node-reads.Asked, node-reads.Learnt, above-reads.Asked, above-reads.Learnt)
 
 -- what is known where the new tree is split: a part of it is old, and the consistency path has a node
-module _ (t : ℕ) (c : walk-lts.After-cut (calls t) (walk-at t) walk.Post) where
+module _ (t : ℕ) (c : walk-lts.After-split-of (calls t) (walk-at t) walk.Post) where
   abbrev entry : walk-lts.Start (calls t) (walk-at t) walk.Post
   entry = c .before .before .before .before
 
@@ -57,7 +57,7 @@ module _ (t : ℕ) (c : walk-lts.After-cut (calls t) (walk-at t) walk.Post) wher
   part = omega (arith, entry .pre .1 .1, c .before .if1 .left)
 
   has-node : 0 < entry .args .q
-  has-node = let j = sub-some (entry .args .m) (entry .args .n) (c .cut .result) (entry .args .known) old part (c .cut .ensures .0) in omega (arith, j, entry .pre .1 .4)
+  has-node = let j = sub-some (entry .args .m) (entry .args .n) (c .split-of .result) (entry .args .known) old part (c .split-of .ensures .0) in omega (arith, j, entry .pre .1 .4)
 
 -- where the old tree is split too: its split is the same, and the old path has a node
 module _ (t : ℕ) (c : walk-lts.Else2 (calls t) (walk-at t) walk.Post) where
@@ -65,16 +65,16 @@ module _ (t : ℕ) (c : walk-lts.Else2 (calls t) (walk-at t) walk.Post) where
   above = entry t (c .before .before)
 
   two-parts : 1 < above .args .m
-  two-parts = omega (arith, c .if2 .left, c .before .before .cut .ensures .1)
+  two-parts = omega (arith, c .if2 .left, c .before .before .split-of .ensures .1)
 
-  same-cut : c .before .before .cut .result ≡ split (above .args .m)
+  same-cut : c .before .before .split-of .result ≡ split (above .args .m)
   same-cut =
-      let e = c .before .before .cut .ensures .0 in
+      let e = c .before .before .split-of .ensures .0 in
       let lt = part t (c .before .before) in
       e ∙ sym (split-same (above .args .n) (above .args .m) (omega (arith, two-parts, lt)) (omega (arith, c .if2 .left, e)) (omega (arith, lt)))
 
   has-side : 0 < above .args .p
-  has-side = let i = count-some (above .args .x) (above .args .m) (c .before .before .cut .result) two-parts same-cut in omega (arith, i, above .pre .1 .2)
+  has-side = let i = count-some (above .args .x) (above .args .m) (c .before .before .split-of .result) two-parts same-cut in omega (arith, i, above .pre .1 .2)
 
 walk-yielded-root-requires : (t : ℕ) → walk-lts.Need-yielded-root-requires (calls t) (walk-at t) walk.Post
 walk-yielded-root-requires t c κs = search needs
@@ -100,8 +100,8 @@ walk-returns t c =
       (s .0 .1 ∙ r .0, (r .1, (walked-all sha256 (a .x) (a .m) (a .n) k (a .leaf .bytes) (a .first .bytes) (a .p) (a .q) (now (a .path)) (now (a .proof)) z e (s .1), (path-all sha256 (a .x) (a .m) (a .n) k (a .leaf .bytes) (a .first .bytes) (a .p) (a .q) (now (a .path)) (now (a .proof)) z (c .before .before .before .yielded-roots .result .new .bytes) e, (omega arith, omega arith, omega arith))))),
     )
 
-walk-cut-requires : (t : ℕ) → walk-lts.Need-cut-requires (calls t) (walk-at t) walk.Post
-walk-cut-requires t c κs = search needs
+walk-split-of-requires : (t : ℕ) → walk-lts.Need-split-of-requires (calls t) (walk-at t) walk.Post
+walk-split-of-requires t c κs = search needs
 
 walk-sub-j : (t : ℕ) → walk-lts.Need-sub-j (calls t) (walk-at t) walk.Post
 walk-sub-j t c = let q = has-node t c in omega arith
@@ -114,7 +114,7 @@ walk-walk-requires t c κs =
     let at = c .before .before in
     let a = entry t at .args in
     let lt = part t at in
-    let d = sub-low (a .m) (a .n) (at .cut .result) (a .known) (old t at) lt (at .cut .ensures .0) (c .if2 .taken) in
+    let d = sub-low (a .m) (a .n) (at .split-of .result) (a .known) (old t at) lt (at .split-of .ensures .0) (c .if2 .taken) in
     (omega arith, (omega arith, omega arith, omega arith, omega arith, omega arith, omega arith))
 
 walk-node-requires : (t : ℕ) → walk-lts.Need-node-requires (calls t) (walk-at t) walk.Post
@@ -126,8 +126,8 @@ walk-returns-2 t c =
     let at = c .before .before .before .before .before .before .before in
     let start = entry t at in
     let a = start .args in
-    let k = at .cut .result in
-    let e = at .cut .ensures .0 in
+    let k = at .split-of .result in
+    let e = at .split-of .ensures .0 in
     let z = old t at in
     let lt = part t at in
     let some = has-node t at in
@@ -183,8 +183,8 @@ walk-returns-3 t c =
     let at = here .before .before in
     let start = entry t at in
     let a = start .args in
-    let k = at .cut .result in
-    let e = at .cut .ensures .0 in
+    let k = at .split-of .result in
+    let e = at .split-of .ensures .0 in
     let z = old t at in
     let lt = part t at in
     let some = has-node t at in
@@ -229,8 +229,8 @@ walk-walk-requires-2 t c κs =
     let at = here .before .before in
     let a = entry t at .args in
     let lt = part t at in
-    let d = sub-high (a .m) (a .n) (at .cut .result) (a .known) (old t at) lt (at .cut .ensures .0) (here .if2 .left) in
-    let f = count-high (a .x) (a .m) (at .cut .result) (two-parts t here) (same-cut t here) (c .if3 .left) in
+    let d = sub-high (a .m) (a .n) (at .split-of .result) (a .known) (old t at) lt (at .split-of .ensures .0) (here .if2 .left) in
+    let f = count-high (a .x) (a .m) (at .split-of .result) (two-parts t here) (same-cut t here) (c .if3 .left) in
     (omega arith, (omega arith, omega arith, omega arith, omega arith, omega arith, omega arith))
 
 walk-above-requires-2 : (t : ℕ) → walk-lts.Need-above-requires-2 (calls t) (walk-at t) walk.Post
@@ -246,8 +246,8 @@ walk-returns-4 t c =
     let at = here .before .before in
     let start = entry t at in
     let a = start .args in
-    let k = at .cut .result in
-    let e = at .cut .ensures .0 in
+    let k = at .split-of .result in
+    let e = at .split-of .ensures .0 in
     let z = old t at in
     let lt = part t at in
     let some = has-node t at in
@@ -286,7 +286,7 @@ pub +walk-spec : {M : Type 1} → statement M
     (walk-yielded-roots-requires t)
     (walk-start-requires t)
     (walk-returns t)
-    (walk-cut-requires t)
+    (walk-split-of-requires t)
     (walk-sub-j t)
     (walk-node-at-requires t)
     (walk-walk-requires t)

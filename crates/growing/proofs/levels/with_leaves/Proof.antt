@@ -55,7 +55,7 @@ loop2-again c =
       length-set s (l .level) _ ∙ l .inv .1,
       l .inv .2 ∙ up
           ∙ ap (λ (x : Digest). take (l .level + 1) t ++ carried sha256 (drop (l .level + 1) t) (l .m / 2) x) (sym (node-over (getD s (l .level) past) (l .h) (c .before .node .result) (c .before .node .ensures)))
-          ∙ ap (λ (x : Digest). take (l .level + 1) (set s (l .level) x) ++ carried sha256 (drop (l .level + 1) (set s (l .level) x)) (l .m / 2) (c .before .node .result)) (sym (c .none .ensures)),
+          ∙ ap (λ (x : Digest). take (l .level + 1) (set s (l .level) x) ++ carried sha256 (drop (l .level + 1) (set s (l .level) x)) (l .m / 2) (c .before .node .result)) (sym (c .no-hash .ensures)),
     )
 
 loop-again : tie.Need-loop-again Inv-loop2 μ-loop2 Inv-loop μ-loop

@@ -13,7 +13,7 @@ use Rattle.tree.proofs.parts.part_root.Kinds as part-root-kinds
 use Rattle.tree.proofs.parts.+part_root.Lts-part_root as part-root-lts
 use Rattle.hash.proofs.node.Reads as node-reads
 use Rattle.tree.proofs.nodes.node_at.Reads as node-at-reads
-use Rattle.tree.proofs.split.cut.Reads as cut-reads
+use Rattle.tree.proofs.split.split_of.Reads as split-reads
 use Rattle.tree.proofs.parts.+part_root.{statement}
 use Rattle.tree.proofs.parts.+part_root.Tie.{close}
 
@@ -28,7 +28,7 @@ part-root-below t =
     and 1 part-root-kinds.ps (falls 1 part-root-kinds.ps _<_ μ-part-root t) part-root.Pre
 
 abbrev calls : ℕ → part-root-lts.Claims
-calls t = (node-at-reads.Asked, node-at-reads.Learnt, cut-reads.Asked, cut-reads.Learnt, part-root-below t, part-root.Post, node-reads.Asked, node-reads.Learnt)
+calls t = (node-at-reads.Asked, node-at-reads.Learnt, split-reads.Asked, split-reads.Learnt, part-root-below t, part-root.Post, node-reads.Asked, node-reads.Learnt)
 
 part-root-node-at-requires : (t : ℕ) → part-root-lts.Need-node-at-requires (calls t) (part-root-at t) part-root.Post
 part-root-node-at-requires t c κs = omega arith
@@ -38,8 +38,8 @@ part-root-returns t c =
     let a = c .before .before .before .args in
     root-single sha256 (a .from) (a .n) (now (a .leaves)) (omega arith) (c .node-at .ensures ∙ hash-in (a .from) (now (a .leaves)) (omega arith))
 
-part-root-cut-requires : (t : ℕ) → part-root-lts.Need-cut-requires (calls t) (part-root-at t) part-root.Post
-part-root-cut-requires t c κs = omega arith
+part-root-split-of-requires : (t : ℕ) → part-root-lts.Need-split-of-requires (calls t) (part-root-at t) part-root.Post
+part-root-split-of-requires t c κs = omega arith
 
 part-root-part-root-requires : (t : ℕ) → part-root-lts.Need-part-root-requires (calls t) (part-root-at t) part-root.Post
 part-root-part-root-requires t c κs = omega arith
@@ -59,8 +59,8 @@ part-root-node-requires t c κs = omega arith
 part-root-returns-2 : (t : ℕ) → part-root-lts.Need-returns-2 (calls t) (part-root-at t) part-root.Post
 part-root-returns-2 t c =
     let a = c .before .before .before .before .before .before .args in
-    let e = c .before .before .before .cut .ensures .0 in
-    root-parts sha256 (a .from) (a .n) (now (a .leaves)) (c .before .before .before .cut .result) (omega arith) e (c .node .ensures) (c .before .before .part-root .ensures) (c .before .part-root2 .ensures)
+    let e = c .before .before .before .split-of .ensures .0 in
+    root-parts sha256 (a .from) (a .n) (now (a .leaves)) (c .before .before .before .split-of .result) (omega arith) e (c .node .ensures) (c .before .before .part-root .ensures) (c .before .part-root2 .ensures)
 
 pub +part-root-spec : {M : Type 1} → statement M
 +part-root-spec = close μ-part-root λ t. part-root-lts.spec (calls t)
@@ -68,7 +68,7 @@ pub +part-root-spec : {M : Type 1} → statement M
     part-root.Post
     (part-root-node-at-requires t)
     (part-root-returns t)
-    (part-root-cut-requires t)
+    (part-root-split-of-requires t)
     (part-root-part-root-requires t)
     (part-root-add-part-root t)
     (part-root-sub-part-root t)

@@ -13,7 +13,7 @@ use Rattle.tree.proofs.parts.path_into.Reads as path-into
 use Rattle.tree.proofs.parts.path_into.Kinds as path-into-kinds
 use Rattle.tree.proofs.parts.+path_into.Lts-path_into as path-into-lts
 use Rattle.tree.proofs.parts.put_root.Reads as put-root-reads
-use Rattle.tree.proofs.split.cut.Reads as cut-reads
+use Rattle.tree.proofs.split.split_of.Reads as split-reads
 use Rattle.tree.proofs.parts.+path_into.{statement}
 use Rattle.tree.proofs.parts.+path_into.Tie.{close}
 
@@ -28,38 +28,38 @@ path-into-below t =
     and 2 path-into-kinds.ps (falls 2 path-into-kinds.ps _<_ μ-path-into t) path-into.Pre
 
 abbrev calls : ℕ → path-into-lts.Claims
-calls t = (cut-reads.Asked, cut-reads.Learnt, path-into-below t, path-into.Post, put-root-reads.Asked, put-root-reads.Learnt)
+calls t = (split-reads.Asked, split-reads.Learnt, path-into-below t, path-into.Post, put-root-reads.Asked, put-root-reads.Learnt)
 
 -- by what the path of a part grows
 module _ (t : ℕ) (c : path-into-lts.Then2 (calls t) (path-into-at t) path-into.Post) where
   abbrev entry₁ : path-into-lts.Start (calls t) (path-into-at t) path-into.Post
   entry₁ = c .before .before .before .before .before
 
-  abbrev cut₁ : ℕ
-  cut₁ = c .before .cut .result
+  abbrev split₁ : ℕ
+  split₁ = c .before .split-of .result
 
-  first-grows : Grows (path sha256 (entry₁ .args .place) (nodesFrom (entry₁ .args .from) cut₁ (now (entry₁ .args .leaves)))) (path sha256 (entry₁ .args .place) (nodesFrom (entry₁ .args .from) (entry₁ .args .n) (now (entry₁ .args .leaves)))) (root sha256 (nodesFrom (entry₁ .args .from + cut₁) (entry₁ .args .n - cut₁) (now (entry₁ .args .leaves))))
+  first-grows : Grows (path sha256 (entry₁ .args .place) (nodesFrom (entry₁ .args .from) split₁ (now (entry₁ .args .leaves)))) (path sha256 (entry₁ .args .place) (nodesFrom (entry₁ .args .from) (entry₁ .args .n) (now (entry₁ .args .leaves)))) (root sha256 (nodesFrom (entry₁ .args .from + split₁) (entry₁ .args .n - split₁) (now (entry₁ .args .leaves))))
   first-grows =
-      path-grows-first sha256 sha256-length (entry₁ .args .from) (entry₁ .args .n) (now (entry₁ .args .leaves)) (omega arith) cut₁ (omega arith) (c .before .cut .ensures .0) (entry₁ .args .place) (c .if2 .taken)
+      path-grows-first sha256 sha256-length (entry₁ .args .from) (entry₁ .args .n) (now (entry₁ .args .leaves)) (omega arith) split₁ (omega arith) (c .before .split-of .ensures .0) (entry₁ .args .place) (c .if2 .taken)
 
 module _ (t : ℕ) (c : path-into-lts.Else2 (calls t) (path-into-at t) path-into.Post) where
   abbrev entry₂ : path-into-lts.Start (calls t) (path-into-at t) path-into.Post
   entry₂ = c .before .before .before .before .before
 
-  abbrev cut₂ : ℕ
-  cut₂ = c .before .cut .result
+  abbrev split₂ : ℕ
+  split₂ = c .before .split-of .result
 
-  rest-grows : Grows (path sha256 (entry₂ .args .place - cut₂) (nodesFrom (entry₂ .args .from + cut₂) (entry₂ .args .n - cut₂) (now (entry₂ .args .leaves)))) (path sha256 (entry₂ .args .place) (nodesFrom (entry₂ .args .from) (entry₂ .args .n) (now (entry₂ .args .leaves)))) (root sha256 (nodesFrom (entry₂ .args .from) cut₂ (now (entry₂ .args .leaves))))
+  rest-grows : Grows (path sha256 (entry₂ .args .place - split₂) (nodesFrom (entry₂ .args .from + split₂) (entry₂ .args .n - split₂) (now (entry₂ .args .leaves)))) (path sha256 (entry₂ .args .place) (nodesFrom (entry₂ .args .from) (entry₂ .args .n) (now (entry₂ .args .leaves)))) (root sha256 (nodesFrom (entry₂ .args .from) split₂ (now (entry₂ .args .leaves))))
   rest-grows =
-      path-grows-rest sha256 sha256-length (entry₂ .args .from) (entry₂ .args .n) (now (entry₂ .args .leaves)) (omega arith) cut₂ (omega arith) (c .before .cut .ensures .0) (entry₂ .args .place) (c .if2 .left)
+      path-grows-rest sha256 sha256-length (entry₂ .args .from) (entry₂ .args .n) (now (entry₂ .args .leaves)) (omega arith) split₂ (omega arith) (c .before .split-of .ensures .0) (entry₂ .args .place) (c .if2 .left)
 
 path-into-returns : (t : ℕ) → path-into-lts.Need-returns (calls t) (path-into-at t) path-into.Post
 path-into-returns t c =
     let a = c .before .before .before .args in
     over-none _ (now (a .out)) (path-single sha256 (a .from) (a .n) (now (a .leaves)) (a .place) (omega arith))
 
-path-into-cut-requires : (t : ℕ) → path-into-lts.Need-cut-requires (calls t) (path-into-at t) path-into.Post
-path-into-cut-requires t c κs = omega arith
+path-into-split-of-requires : (t : ℕ) → path-into-lts.Need-split-of-requires (calls t) (path-into-at t) path-into.Post
+path-into-split-of-requires t c κs = omega arith
 
 path-into-path-into-requires : (t : ℕ) → path-into-lts.Need-path-into-requires (calls t) (path-into-at t) path-into.Post
 path-into-path-into-requires t c κs = let g = first-grows t (c .before) in (omega arith, (omega arith, omega arith, omega arith))
@@ -114,7 +114,7 @@ pub +path-into-spec : {M : Type 1} → statement M
     (path-into-at t)
     path-into.Post
     (path-into-returns t)
-    (path-into-cut-requires t)
+    (path-into-split-of-requires t)
     (path-into-path-into-requires t)
     (path-into-add-put-root t)
     (path-into-sub-put-root t)

@@ -16,7 +16,7 @@ use Rattle.tree.proofs.parts.proof_into.Reads as proof-into
 use Rattle.tree.proofs.parts.proof_into.Kinds as proof-into-kinds
 use Rattle.tree.proofs.parts.+proof_into.Lts-proof_into as proof-into-lts
 use Rattle.tree.proofs.parts.put_root.Reads as put-root-reads
-use Rattle.tree.proofs.split.cut.Reads as cut-reads
+use Rattle.tree.proofs.split.split_of.Reads as split-reads
 use Rattle.tree.proofs.parts.+proof_into.{statement}
 use Rattle.tree.proofs.parts.+proof_into.Tie.{close}
 
@@ -32,30 +32,30 @@ proof-into-below t =
     and 2 proof-into-kinds.ps (falls 2 proof-into-kinds.ps _<_ μ-proof-into t) proof-into.Pre
 
 abbrev calls : ℕ → proof-into-lts.Claims
-calls t = (put-root-reads.Asked, put-root-reads.Learnt, cut-reads.Asked, cut-reads.Learnt, proof-into-below t, proof-into.Post)
+calls t = (put-root-reads.Asked, put-root-reads.Learnt, split-reads.Asked, split-reads.Learnt, proof-into-below t, proof-into.Post)
 
 -- by what the path of a part grows
 module _ (t : ℕ) (c : proof-into-lts.Then3 (calls t) (proof-into-at t) proof-into.Post) where
   abbrev entry₁ : proof-into-lts.Start (calls t) (proof-into-at t) proof-into.Post
   entry₁ = c .before .before .before .before .before
 
-  abbrev cut₁ : ℕ
-  cut₁ = c .before .cut .result
+  abbrev split₁ : ℕ
+  split₁ = c .before .split-of .result
 
-  first-grows : Grows (subproof sha256 (entry₁ .args .m) (nodesFrom (entry₁ .args .from) cut₁ (now (entry₁ .args .leaves))) (entry₁ .args .known)) (subproof sha256 (entry₁ .args .m) (nodesFrom (entry₁ .args .from) (entry₁ .args .n) (now (entry₁ .args .leaves))) (entry₁ .args .known)) (root sha256 (nodesFrom (entry₁ .args .from + cut₁) (entry₁ .args .n - cut₁) (now (entry₁ .args .leaves))))
+  first-grows : Grows (subproof sha256 (entry₁ .args .m) (nodesFrom (entry₁ .args .from) split₁ (now (entry₁ .args .leaves))) (entry₁ .args .known)) (subproof sha256 (entry₁ .args .m) (nodesFrom (entry₁ .args .from) (entry₁ .args .n) (now (entry₁ .args .leaves))) (entry₁ .args .known)) (root sha256 (nodesFrom (entry₁ .args .from + split₁) (entry₁ .args .n - split₁) (now (entry₁ .args .leaves))))
   first-grows =
-      sub-grows-first sha256 sha256-length (entry₁ .args .from) (entry₁ .args .n) (now (entry₁ .args .leaves)) (omega arith) (entry₁ .args .m) (entry₁ .args .known) (omega arith) cut₁ (omega arith) (c .before .cut .ensures .0) (c .if3 .taken)
+      sub-grows-first sha256 sha256-length (entry₁ .args .from) (entry₁ .args .n) (now (entry₁ .args .leaves)) (omega arith) (entry₁ .args .m) (entry₁ .args .known) (omega arith) split₁ (omega arith) (c .before .split-of .ensures .0) (c .if3 .taken)
 
 module _ (t : ℕ) (c : proof-into-lts.Else3 (calls t) (proof-into-at t) proof-into.Post) where
   abbrev entry₂ : proof-into-lts.Start (calls t) (proof-into-at t) proof-into.Post
   entry₂ = c .before .before .before .before .before
 
-  abbrev cut₂ : ℕ
-  cut₂ = c .before .cut .result
+  abbrev split₂ : ℕ
+  split₂ = c .before .split-of .result
 
-  rest-grows : Grows (subproof sha256 (entry₂ .args .m - cut₂) (nodesFrom (entry₂ .args .from + cut₂) (entry₂ .args .n - cut₂) (now (entry₂ .args .leaves))) false) (subproof sha256 (entry₂ .args .m) (nodesFrom (entry₂ .args .from) (entry₂ .args .n) (now (entry₂ .args .leaves))) (entry₂ .args .known)) (root sha256 (nodesFrom (entry₂ .args .from) cut₂ (now (entry₂ .args .leaves))))
+  rest-grows : Grows (subproof sha256 (entry₂ .args .m - split₂) (nodesFrom (entry₂ .args .from + split₂) (entry₂ .args .n - split₂) (now (entry₂ .args .leaves))) false) (subproof sha256 (entry₂ .args .m) (nodesFrom (entry₂ .args .from) (entry₂ .args .n) (now (entry₂ .args .leaves))) (entry₂ .args .known)) (root sha256 (nodesFrom (entry₂ .args .from) split₂ (now (entry₂ .args .leaves))))
   rest-grows =
-      sub-grows-rest sha256 sha256-length (entry₂ .args .from) (entry₂ .args .n) (now (entry₂ .args .leaves)) (omega arith) (entry₂ .args .m) (entry₂ .args .known) (omega arith) cut₂ (omega arith) (c .before .cut .ensures .0) (c .if3 .left)
+      sub-grows-rest sha256 sha256-length (entry₂ .args .from) (entry₂ .args .n) (now (entry₂ .args .leaves)) (omega arith) (entry₂ .args .m) (entry₂ .args .known) (omega arith) split₂ (omega arith) (c .before .split-of .ensures .0) (c .if3 .left)
 
 proof-into-returns : (t : ℕ) → proof-into-lts.Need-returns (calls t) (proof-into-at t) proof-into.Post
 proof-into-returns t c =
@@ -79,8 +79,8 @@ proof-into-returns-2 t c =
     let put = c .before .before .put-root .ensures in
     over-more (now (a .out)) g (none .0) (none .1) (put .0) (put .1)
 
-proof-into-cut-requires : (t : ℕ) → proof-into-lts.Need-cut-requires (calls t) (proof-into-at t) proof-into.Post
-proof-into-cut-requires t c κs = omega arith
+proof-into-split-of-requires : (t : ℕ) → proof-into-lts.Need-split-of-requires (calls t) (proof-into-at t) proof-into.Post
+proof-into-split-of-requires t c κs = omega arith
 
 proof-into-proof-into-requires : (t : ℕ) → proof-into-lts.Need-proof-into-requires (calls t) (proof-into-at t) proof-into.Post
 proof-into-proof-into-requires t c κs = let g = first-grows t (c .before) in (omega arith, (omega arith, omega arith, omega arith, omega arith))
@@ -141,7 +141,7 @@ pub +proof-into-spec : {M : Type 1} → statement M
     (proof-into-put-root-requires t)
     (proof-into-same-length t)
     (proof-into-returns-2 t)
-    (proof-into-cut-requires t)
+    (proof-into-split-of-requires t)
     (proof-into-proof-into-requires t)
     (proof-into-add-put-root t)
     (proof-into-sub-put-root t)

@@ -1,12 +1,12 @@
--- `tree::split::cut` meets its contract, by the law of the split and leading zeros. Assumes nothing.
+-- `tree::split::split_of` meets its contract, by the law of the split and leading zeros. Assumes nothing.
 use mathlib.Core.Path.{_≡_, sym, ap, _∙_}
 use Prim.Native.Nat.{ℕ, suc, _-_, _^_}
 use native.Mathlib.Omega.{arith}
 use lib.Count.{leadingZeros, leading-top}
 use Rattle.tree.specs.Split.{split}
 use Rattle.tree.proofs.Splitting.{split-ends, split-few, split-zeros}
-use Rattle.tree.proofs.split.cut.Statement.{statement}
-use Rattle.tree.proofs.split.cut.Tie as tie
+use Rattle.tree.proofs.split.split_of.Statement.{statement}
+use Rattle.tree.proofs.split.split_of.Tie as tie
 
 returns : tie.Need-returns
 returns c = (sym (split-few (c .before .args .n) (c .if1 .taken)), omega arith, omega arith)
@@ -34,5 +34,5 @@ returns-2 c =
     let e : 2 ^ (63 - leadingZeros 64 (n - 1)) ≡ split n = ap (λ (i : ℕ). 2 ^ i) x ∙ sym (split-zeros 64 n more (omega arith)) in
     rw e (omega arith, omega arith, omega arith)
 
-pub cut-spec : {M : Type 1} → statement M
-cut-spec = tie.close (tie.spec returns sub-zeros sub-result cast-result shl-result returns-2)
+pub split-of-spec : {M : Type 1} → statement M
+split-of-spec = tie.close (tie.spec returns sub-zeros sub-result cast-result shl-result returns-2)
