@@ -4,10 +4,10 @@ use Rattle.tree.specs.Split.{doubled, split, size, shapeIn, shape}
 use Rattle.tree.specs.Tree.{node}
 use Rattle.tree.specs.Count.{inclusionCountOf, inclusionCount, subproofCountOf, subproofCount, consistencyCount}
 use Rattle.tree.specs.Yield.{init, last, inclusionRootOf, inclusionRoot, consistencyRootOf, oldRoot, newRoot}
-use Rattle.tree.specs.Joined.{firstNodes, nodes, joined, same}
+use Rattle.octets.specs.Bytes.{same, over}
+use Rattle.tree.specs.Joined.{firstNodes, nodes, joined}
 use Rattle.tree.specs.Verdict.{judged, unless, noPlace, noSizes, inclusionVerdict, consistencyVerdict}
-use Rattle.tree.specs.Build.{over}
-use Rattle.item.specs.Layout.{be, unbe}
+use Rattle.octets.specs.Numbers.{be, unbe}
 use Rattle.carry.specs.Strings.{topmost}
 use Rattle.carry.specs.Forward as forward
 use Rattle.carry.specs.Compare as compare

@@ -7,7 +7,7 @@ use native.Mathlib.Omega.{arith}
 use lib.Dec.{ltb}
 use lib.ListN.{length}
 use borrow.Author.Tests.{eq-eqb, ne-eqb}
-use Rattle.hash.specs.Answers.{mostItem}
+use Rattle.octets.specs.Limits.{mostItem}
 use Rattle.tree.specs.Verdict.{unless, inclusionVerdict}
 use Rattle.tree.proofs.Counting.{bounds}
 use Rattle.tree.proofs.Accepting.{inclusion-accepted}

@@ -14,7 +14,7 @@ use Rattle.auditor.specs.declared.dispute.Settled.the-variants.{Same, No
 use Rattle.auditor.specs.declared.journal.Appended.the-variants.{Used}
 use Rattle.hash.specs.Digest.{sha256}
 use Rattle.tree.specs.Build.{Outcome, wrote}
-use Rattle.item.specs.Steps.{put}
+use Rattle.octets.specs.Bytes.{put}
 use Rattle.auditor.specs.Held.{emptyRecord}
 use Rattle.auditor.specs.Offer.{offered}
 use Rattle.auditor.specs.Page.{asked}
@@ -22,7 +22,7 @@ use Rattle.auditor.specs.Heads.{lastSize, lastRoot, joinedHeads, headsOf
 use Rattle.auditor.specs.Calls.{Call, offer, ask, Entry, answered, called, answers, final, heads}
 use Rattle.auditor.specs.Dispute.{Ruling, samePage, ofNodes, ofPages, settling, disputeReport, pairDisputed, dispute}
 use Rattle.auditor.specs.Demand.{Sound, Settles, WhateverGiven, Demand3}
-use Rattle.sha256.specs.Told.{Told, done, refused}
+use Rattle.octets.specs.Answer.{Answer, done, refused}
 use Rattle.auditor.specs.Journal.{append, appendReport, journalAfter}
 use Rattle.auditor.specs.Keeping.{kept, noted, ifKept, journaled, AsKept}
 use Rattle.auditor.proofs.Settling.{whatever-given, demand3}

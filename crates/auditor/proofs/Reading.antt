@@ -9,9 +9,9 @@ use lib.Dec.{eqb}
 use lib.ListN.{length, drop, length-append, length-drop}
 use lib.Seq.{take-at, drop-at, drop-drop}
 use borrow.Author.Tests.{lt-ltb, le-ltb, eq-eqb, ne-eqb}
-use Rattle.item.specs.Layout.{be}
-use Rattle.item.proofs.Digits.{be-length, unbe-be}
-use Rattle.tree.proofs.Splitting.{lt-or-ge}
+use Rattle.octets.specs.Numbers.{be}
+use Rattle.octets.proofs.Numbers.{be-length, unbe-be}
+use Rattle.octets.proofs.Order.{lt-or-ge}
 use Rattle.auditor.specs.Heads.{Heads, end, truncated, then, joinedHeads, sizeOf, rootOf, countOf, pathOf, headBytes, headsIn, headsOf}
 
 -- the first head is whole, or cut short

@@ -14,9 +14,11 @@ use Rattle.octets.specs.Limits.{mostItem}
 use Rattle.hash.proofs.Promises.{sha256-length}
 use Rattle.tree.specs.Limits.{largestSize}
 use Rattle.tree.specs.Tree.{leaf, root, path, consistency}
-use Rattle.tree.specs.Joined.{nodes, joined, same}
+use Rattle.octets.specs.Bytes.{same}
+use Rattle.tree.specs.Joined.{nodes, joined}
 use Rattle.tree.specs.Verdict.{unless, inclusionVerdict, consistencyVerdict}
-use Rattle.tree.proofs.Joining.{All32, all-take, all-nodes, nodes-joined, joined-append, joined-length, same-refl, same-of}
+use Rattle.octets.proofs.Sameness.{same-refl, same-of}
+use Rattle.tree.proofs.Joining.{All32, all-take, all-nodes, nodes-joined, joined-append, joined-length}
 use Rattle.tree.proofs.Counting.{bounds}
 use Rattle.tree.proofs.Completing.{root-32}
 use Rattle.tree.proofs.Accepting.{inclusion-accepted, consistency-accepted}
@@ -25,7 +27,7 @@ use Rattle.carry.specs.Forward.{carried, carry}
 use Rattle.carry.specs.Compare.{compare}
 use Rattle.carry.proofs.Comparing.{comparing}
 use Rattle.carry.proofs.Honest.{own-inclusion, own-consistency, own-carried}
-use Rattle.sha256.specs.Told.{Told}
+use Rattle.octets.specs.Answer.{Answer}
 use Rattle.auditor.specs.Held.{Held, empty, head, emptyRecord}
 use Rattle.auditor.specs.Offer.{outside, first, against, byRecord, offerNumber, kept}
 use Rattle.auditor.specs.Page.{pageNumber}
@@ -269,7 +271,7 @@ module _ (id : List ℕ) (pages : List (List ℕ)) (all : length pages ≤ large
         rw (p .0, p .2, root, e, le-ltb mostItem (length item) (items place), le-ltb mostItem (length item₂) i, own-accepted m le place (p .1))
         (follows es fs m place pair item₂ w₂ (p .1) le l (g .1))
 
-said : (f : Finding) → f ≡ alike → disputeReport f ≡ Told.done Ruling.samePage
+said : (f : Finding) → f ≡ alike → disputeReport f ≡ Answer.done Ruling.samePage
 unfolding disputeReport
 said f e = rw e
 

@@ -16,7 +16,7 @@ use Rattle.octets.specs.Bytes.{same, over}
 use Rattle.tree.specs.Count.{inclusionCount}
 use Rattle.tree.specs.Collision.{Collision}
 use Rattle.tree.specs.Verdict.{unless, inclusionVerdict, consistencyVerdict}
-use Rattle.tree.proofs.Joining.{same-true, same-refl}
+use Rattle.octets.proofs.Sameness.{same-true, same-refl}
 use Rattle.tree.proofs.Counting.{bounds}
 use Rattle.tree.proofs.Accepting.{inclusion-accepted, consistency-accepted}
 use Rattle.carry.specs.Limits.{pairBytes}
@@ -27,7 +27,7 @@ use Rattle.carry.proofs.Refusing.{opened}
 use Rattle.carry.proofs.Comparing.{is-equal, comparing}
 use Rattle.carry.proofs.Refusing.{passed}
 use Rattle.carry.proofs.Carrying.{carrying}
-use Rattle.sha256.specs.Told.{Told}
+use Rattle.octets.specs.Answer.{Answer}
 use Rattle.auditor.specs.Held.{Held, empty, head, emptyRecord}
 use Rattle.auditor.specs.Heads.{Heads, end, truncated, then, lastSize, lastRoot, joinedHeads, headsOf}
 use Rattle.auditor.specs.Dispute.{Finding, refused, alike, nodes, pages, onward, settled, longestPath, follow, dispute, disputeReport, pairDisputed}
@@ -237,7 +237,7 @@ tells page₁ page₂ (nodes s t) pair w =
     rw (a, b) (w .collision)
 tells page₁ page₂ pages pair w = w
 
-report-refused : (d : Finding) (n : ℕ) → disputeReport d ≡ Told.refused n → d ≡ refused n
+report-refused : (d : Finding) (n : ℕ) → disputeReport d ≡ Answer.refused n → d ≡ refused n
 unfolding disputeReport
 report-refused (refused k) n e = let f : k ≡ n = cc in ap refused f
 report-refused alike n e = absurd (let y : _≡_ {A = ℕ} 0 1 = cc in omega arith)

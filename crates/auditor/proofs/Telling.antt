@@ -6,9 +6,8 @@ use Prim.Native.Nat.{ℕ, _≤_}
 use native.Mathlib.Omega.{arith}
 use lib.ListN.{length, take, drop, length-append}
 use lib.Seq.{take-at}
-use Rattle.tree.specs.Joined.{same}
-use Rattle.tree.specs.Build.{over}
-use Rattle.sha256.specs.Told.{Told, done}
+use Rattle.octets.specs.Bytes.{same, over}
+use Rattle.octets.specs.Answer.{Answer, done}
 use Rattle.carry.specs.Compare.{Comparison, Likeness, compareReport, pairCompared}
 use Rattle.carry.specs.Forward.{Forward, Moved, carryReport, pathCarried, pairCarried}
 use Rattle.auditor.specs.Dispute.{Finding, refused, Ruling, settled, onward, disputeReport, pairDisputed}
@@ -17,14 +16,14 @@ no : _≡_ {A = ℕ} 0 1 → ⊥
 no e = omega arith
 
 -- a refusal says its number, and the pair buffer keeps its bytes
-pub refused-tells : (d : Finding) (n : ℕ) (b : List ℕ) → d ≡ refused n → (Told.refused n ≡ disputeReport d) × (b ≡ pairDisputed d b)
+pub refused-tells : (d : Finding) (n : ℕ) (b : List ℕ) → d ≡ refused n → (Answer.refused n ≡ disputeReport d) × (b ≡ pairDisputed d b)
 unfolding disputeReport pairDisputed
 refused-tells d n b e = rw e (refl, refl)
 
 module _ (page₁ page₂ b : List ℕ) where
-  pub compared-refused : (f : Comparison) (n : ℕ) → Told.refused n ≡ compareReport f → (Told.refused n ≡ disputeReport (settled page₁ page₂ f)) × (pairCompared f b ≡ pairDisputed (settled page₁ page₂ f) b)
+  pub compared-refused : (f : Comparison) (n : ℕ) → Answer.refused n ≡ compareReport f → (Answer.refused n ≡ disputeReport (settled page₁ page₂ f)) × (pairCompared f b ≡ pairDisputed (settled page₁ page₂ f) b)
   unfolding compareReport pairCompared settled disputeReport pairDisputed
-  compared-refused (Comparison.refused k) n e = (let d : n ≡ k = cc in ap Told.refused d, refl)
+  compared-refused (Comparison.refused k) n e = (let d : n ≡ k = cc in ap Answer.refused d, refl)
   compared-refused Comparison.equal n e = absurd (no (cc))
   compared-refused (Comparison.collision s t) n e = absurd (no (cc))
 
@@ -46,7 +45,7 @@ module _ (page₁ page₂ b : List ℕ) where
   compared-pages Comparison.equal e s = rw s (refl, refl)
   compared-pages (Comparison.collision s t) e w = absurd (no (cc))
 
-pub carried-refused : (f : Forward) (go : List ℕ → Finding) (n : ℕ) → Told.refused n ≡ carryReport f → (onward f go ≡ refused n) × ((b : List ℕ) → pairCarried f b ≡ b)
+pub carried-refused : (f : Forward) (go : List ℕ → Finding) (n : ℕ) → Answer.refused n ≡ carryReport f → (onward f go ≡ refused n) × ((b : List ℕ) → pairCarried f b ≡ b)
 unfolding carryReport pairCarried onward
 carried-refused (Forward.refused k) go n e = (let d : k ≡ n = cc in ap refused d, λ b. refl)
 carried-refused (Forward.carried w) go n e = absurd (no (cc))

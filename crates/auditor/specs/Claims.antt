@@ -74,7 +74,7 @@ pub record HonestFor (id : List ℕ) (pages : List (List ℕ)) (calls : List Cal
       (let m = lastSize 0 (heads before) in
       let r = lastRoot [] (heads before) in
       let d = dispute sha256 page₁ place path₁ m r (headsOf (joinedHeads (heads between))) page₂ path₂ (length pair) in
-      disputeReport d ≡ Told.done Ruling.samePage)
+      disputeReport d ≡ Answer.done Ruling.samePage)
 
 abbrev pub HonestLog : Type 0
 HonestLog =

@@ -6,7 +6,7 @@ use lib.ListN.{length, take, drop}
 use Rattle.hash.specs.Digest.{sha256}
 use Rattle.tree.specs.Collision.{Collision}
 use Rattle.tree.specs.Verdict.{consistencyVerdict}
-use Rattle.sha256.specs.Told.{Told, done}
+use Rattle.octets.specs.Answer.{Answer, done}
 use Rattle.auditor.specs.Held.{emptyRecord}
 use Rattle.auditor.specs.Heads.{Heads, end, then, lastSize, lastRoot, joinedHeads, headsOf}
 use Rattle.auditor.specs.Dispute.{Ruling, dispute, disputeReport, pairDisputed}
@@ -15,15 +15,15 @@ use Rattle.carry.specs.Limits.{pairBytes}
 
 -- What is owed of what is told about two pages, with the pair buffer after it: 'same' is said of equal bytes alone, and strings that are handed over
 -- differ and have one SHA-256 value.
-unfoldable pub Sound : List ℕ → List ℕ → Told Ruling → List ℕ → Type 0
+unfoldable pub Sound : List ℕ → List ℕ → Answer Ruling → List ℕ → Type 0
 Sound page₁ page₂ (done Ruling.samePage) pair = page₁ ≡ page₂
 Sound page₁ page₂ (done Ruling.ofNodes) pair = Collision sha256 (take 65 pair) (take 65 (drop 65 pair))
 Sound page₁ page₂ (done Ruling.ofPages) pair = Collision sha256 (0 ∷ page₁) (0 ∷ page₂)
-Sound page₁ page₂ (Told.refused n) pair = Unit {0}
+Sound page₁ page₂ (Answer.refused n) pair = Unit {0}
 
 -- the same, and it is no refusal
-unfoldable pub Settles : List ℕ → List ℕ → Told Ruling → List ℕ → Type 0
-Settles page₁ page₂ said pair = Sound page₁ page₂ said pair × ((n : ℕ) → said ≡ Told.refused n → ⊥)
+unfoldable pub Settles : List ℕ → List ℕ → Answer Ruling → List ℕ → Type 0
+Settles page₁ page₂ said pair = Sound page₁ page₂ said pair × ((n : ℕ) → said ≡ Answer.refused n → ⊥)
 
 -- whatever a dispute is given, pages that are the same included
 abbrev pub WhateverGiven : Type 0

@@ -8,8 +8,7 @@ use lib.Dec.{ltb}
 use lib.ListN.{length, take, drop}
 use Rattle.octets.specs.Limits.{mostItem}
 use Rattle.tree.specs.Limits.{mostNodes}
-use Rattle.tree.specs.Build.{over}
-use Rattle.tree.specs.Joined.{same}
+use Rattle.octets.specs.Bytes.{over, same}
 use Rattle.tree.specs.Verdict.{unless, inclusionVerdict}
 use Rattle.carry.specs.Forward.{Forward, carry}
 use Rattle.carry.specs.Compare.{Comparison, compare}
@@ -36,8 +35,8 @@ pub data Ruling : Type 0 where
   ofPages : Ruling
 
 -- what it tells
-unfoldable pub disputeReport : Finding → Told Ruling
-disputeReport (refused n) = Told.refused n
+unfoldable pub disputeReport : Finding → Answer Ruling
+disputeReport (refused n) = Answer.refused n
 disputeReport alike = done samePage
 disputeReport (nodes s t) = done ofNodes
 disputeReport pages = done ofPages

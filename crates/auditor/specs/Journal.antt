@@ -24,8 +24,8 @@ append room used size root path =
     (into (room - used) (joinedHeads (then size root path end))))
 
 -- what it tells: the number, or how many bytes are used after it
-unfoldable pub appendReport : ℕ → Outcome → Told ℕ
-appendReport used (refused n) = Told.refused n
+unfoldable pub appendReport : ℕ → Outcome → Answer ℕ
+appendReport used (refused n) = Answer.refused n
 appendReport used (wrote w) = done (used + length w)
 
 -- the buffer after it: a refusal changes nothing, and the bytes before and after the head stay

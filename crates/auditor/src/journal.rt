@@ -26,7 +26,7 @@ fn join(journal: &mut [u8], used: usize, size: u64, root: &[u8], path: &[u8])
         × (length (now path) ≤ 32 * mostCount)
         × (length (now path) % 32 ≡ 0)
         × (used + (42 + length (now path)) ≤ length (now journal)) ⌝ }
-    ensures { λ _. ⌜ now (journal .exit) ≡ put (now (journal .entry)) used (joinedHeads (then size (now (root .entry)) (now (path .entry)) end)) ⌝ }
+    ensures { λ _. ⌜ now (journal .exit) ≡ putBytes (now (journal .entry)) used (joinedHeads (then size (now (root .entry)) (now (path .entry)) end)) ⌝ }
 {
     let n = path.len();
     put_number(journal, used, Width::Eight, size);

@@ -14,13 +14,13 @@ use Rattle.tree.specs.Count.{inclusionCount, subproofCount, consistencyCount}
 use Rattle.tree.specs.Yield.{inclusionRoot, oldRoot, newRoot}
 use Rattle.tree.specs.Joined.{firstNodes, nodes, nodesFrom, joined, hashAt}
 use Rattle.tree.specs.Verdict.{unless, inclusionVerdict, consistencyVerdict}
-use Rattle.tree.specs.Build.{over}
+use Rattle.octets.specs.Bytes.{over}
 use Rattle.tree.proofs.Counting.{bounds}
 use Rattle.tree.proofs.Accepting.{inclusion-accepted, inclusion-accepts, consistency-accepted, consistency-accepts}
 use Rattle.tree.proofs.Joining.{All32, nodes-first, nodes-length, all-nodes, whole-hash, first-length, joined-append, joined-length, nodes-joined}
 use Rattle.carry.specs.Limits.{pairBytes}
 use Rattle.carry.proofs.Refusing.{opened, passed}
-use Rattle.sha256.specs.Told.{Told, done}
+use Rattle.octets.specs.Answer.{Answer, done}
 use Rattle.carry.specs.Strings.{Difference, alike, apart, Collides}
 use Rattle.carry.specs.Forward.{Forward, refused, carried, collision, Moved, carryReport, pathCarried, pairCarried, forwarded, conflict, forward, carry}
 use Rattle.carry.specs.Carries.{Carrying}
@@ -90,7 +90,7 @@ module _ (H : List ℕ → List ℕ) (leaf : List ℕ) (place m n : ℕ) (root�
           long l = rw (← e, ← g, eq-eqb v 0 z, eq-eqb w 0 y, le-ltb room (32 * inclusionCount place n) r, le-ltb pair pairBytes l)
 
 -- what is told and the buffers, by what is carried
-pub tells-refused : {c : Forward} {k : ℕ} (o b : List ℕ) → c ≡ refused k → (Told.refused k ≡ carryReport c) × ((o ≡ pathCarried c o) × (b ≡ pairCarried c b))
+pub tells-refused : {c : Forward} {k : ℕ} (o b : List ℕ) → c ≡ refused k → (Answer.refused k ≡ carryReport c) × ((o ≡ pathCarried c o) × (b ≡ pairCarried c b))
 unfolding carryReport pathCarried pairCarried
 tells-refused o b e = rw e (refl, (refl, refl))
 

@@ -10,12 +10,12 @@ use borrow.Author.Tests.{lt-ltb, le-ltb, eq-eqb, ne-eqb}
 use Rattle.tree.specs.Count.{inclusionCount}
 use Rattle.tree.specs.Joined.{firstNodes, nodes, joined, hashAt}
 use Rattle.tree.specs.Verdict.{unless, inclusionVerdict}
-use Rattle.tree.specs.Build.{over}
+use Rattle.octets.specs.Bytes.{over}
 use Rattle.tree.proofs.Accepting.{inclusion-accepted}
 use Rattle.tree.proofs.Joining.{nodes-first, nodes-length, all-nodes, whole-hash}
 use Rattle.carry.specs.Limits.{pairBytes}
 use Rattle.carry.proofs.Refusing.{opened, passed}
-use Rattle.sha256.specs.Told.{Told, done}
+use Rattle.octets.specs.Answer.{Answer, done}
 use Rattle.carry.specs.Strings.{Difference, alike, apart, Collides}
 use Rattle.carry.specs.Compare.{Comparison, refused, equal, collision, Likeness, compareReport, pairCompared, found, differ, compare}
 use Rattle.carry.specs.Compares.{Comparing}
@@ -67,7 +67,7 @@ module _ (H : List ℕ → List ℕ) (place n : ℕ) (root leaf₁ path₁ leaf�
         long l = rw (← e, ← g, eq-eqb v 0 z, eq-eqb w 0 y, le-ltb room pairBytes l)
 
 -- what is told and the buffer, by what is compared
-pub tells-refused : {c : Comparison} {n : ℕ} (b : List ℕ) → c ≡ refused n → (Told.refused n ≡ compareReport c) × (b ≡ pairCompared c b)
+pub tells-refused : {c : Comparison} {n : ℕ} (b : List ℕ) → c ≡ refused n → (Answer.refused n ≡ compareReport c) × (b ≡ pairCompared c b)
 unfolding compareReport pairCompared
 tells-refused b e = rw e (refl, refl)
 

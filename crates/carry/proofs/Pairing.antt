@@ -6,8 +6,8 @@ use mathlib.Core.List.{List}
 use Prim.Native.Nat.{ℕ}
 use lib.ListN.{length, take, drop}
 use lib.Seq.{take-at, drop-at}
-use Rattle.tree.specs.Joined.{same}
-use Rattle.tree.proofs.Joining.{same-true, same-of, same-by}
+use Rattle.octets.specs.Bytes.{same}
+use Rattle.octets.proofs.Sameness.{same-true, same-of, same-by}
 use Rattle.carry.specs.declared.level.Recomputed.{Recomputed}
 use Rattle.carry.specs.Strings.{string, Difference, alike, apart, topmost}
 use Rattle.carry.specs.Inner.{differenceOf}

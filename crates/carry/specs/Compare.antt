@@ -8,8 +8,8 @@ use Rattle.tree.specs.Split.{Shape, one, fork, size, shape}
 use Rattle.tree.specs.Yield.{init, last, inclusionRootOf}
 use Rattle.tree.specs.Joined.{nodes}
 use Rattle.tree.specs.Verdict.{unless, inclusionVerdict}
-use Rattle.tree.specs.Build.{over}
-use Rattle.sha256.specs.Told.{Told, done}
+use Rattle.octets.specs.Bytes.{over}
+use Rattle.octets.specs.Answer.{Answer, done}
 use Rattle.carry.specs.Limits.{pairBytes}
 use Rattle.carry.specs.declared.compare.Compared.{Compared}
 use Rattle.carry.specs.declared.compare.Compared.the-variants.{Same, Collision, Refused}
@@ -27,8 +27,8 @@ pub data Likeness : Type 0 where
   ofStrings : Likeness
 
 -- what it tells
-unfoldable pub compareReport : Comparison → Told Likeness
-compareReport (refused n) = Told.refused n
+unfoldable pub compareReport : Comparison → Answer Likeness
+compareReport (refused n) = Answer.refused n
 compareReport equal = done same
 compareReport (collision s t) = done ofStrings
 

@@ -11,8 +11,8 @@ use Rattle.tree.specs.Count.{inclusionCount}
 use Rattle.tree.specs.Yield.{init, last, inclusionRootOf, inclusionRoot, consistencyRootOf}
 use Rattle.tree.specs.Joined.{nodes, joined}
 use Rattle.tree.specs.Verdict.{unless, inclusionVerdict, consistencyVerdict}
-use Rattle.tree.specs.Build.{over}
-use Rattle.sha256.specs.Told.{Told, done}
+use Rattle.octets.specs.Bytes.{over}
+use Rattle.octets.specs.Answer.{Answer, done}
 use Rattle.carry.specs.Limits.{pairBytes}
 use Rattle.carry.specs.declared.forward.Carried.{Carried}
 use Rattle.carry.specs.declared.forward.Carried.the-variants.{Path, Collision, Refused}
@@ -30,8 +30,8 @@ pub data Moved : Type 0 where
   ofStrings : Moved
 
 -- what it tells
-unfoldable pub carryReport : Forward → Told Moved
-carryReport (refused n) = Told.refused n
+unfoldable pub carryReport : Forward → Answer Moved
+carryReport (refused n) = Answer.refused n
 carryReport (carried w) = done (ofPath (length w))
 carryReport (collision s t) = done ofStrings
 

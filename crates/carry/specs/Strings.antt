@@ -5,7 +5,7 @@ use mathlib.Core.List.{List, _∷_, _++_}
 use Prim.Native.Nat.{ℕ}
 use lib.ListN.{length}
 use Rattle.tree.specs.Collision.{Collision}
-use Rattle.tree.specs.Joined.{same}
+use Rattle.octets.specs.Bytes.{same}
 
 -- 0x01 || left || right
 abbrev pub string : List ℕ → List ℕ → List ℕ

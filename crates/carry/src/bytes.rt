@@ -5,7 +5,7 @@ ghost use mathlib.Core.Path.{_≡_};
 ghost use mathlib.Core.List.{_++_};
 ghost use Prim.Native.Nat.{_+_, _-_, _*_, _≤_};
 ghost use lib.ListN.{length, take, drop};
-ghost use Rattle.tree.specs.Build.{over};
+ghost use Rattle.octets.specs.Bytes.{over};
 ghost use Rattle.carry.specs.Limits.{pairBytes};
 ghost use Rattle.carry.specs.Strings.{string};
 ghost use Rattle.carry.specs.Inner.{Appends};

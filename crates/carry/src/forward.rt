@@ -39,7 +39,7 @@ fn refusal(
         (let H = sha256 in
         let inclusion = inclusionVerdict H (now (leaf .entry)) place m (now (old .entry)) (now (path .entry)) in
         let consistency = consistencyVerdict H m n (now (old .entry)) (now (new .entry)) (now (proof .entry)) in
-        carrying r ≡ Told.refused (either inclusion consistency)) ⌝ }
+        carrying r ≡ Answer.refused (either inclusion consistency)) ⌝ }
 {
     let inclusion = inclusion_verdict(leaf, place, m, old, path);
     if inclusion != 0 {

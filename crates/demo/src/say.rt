@@ -14,7 +14,11 @@ pub(crate) fn count(text: &[u8], n: u64) {
 // Words, and the first 8 bytes of a hash.
 pub(crate) fn short(text: &[u8], hash: &[u8]) {
     io::write_all(STDOUT_FILENO, text);
-    io::print_hex(STDOUT_FILENO, octets::number_at(hash, 0, octets::Width::Eight), 16);
+    io::print_hex(
+        STDOUT_FILENO,
+        octets::number_at(hash, 0, octets::Width::Eight),
+        16,
+    );
 }
 
 // What the number of a refusal means. An auditor's answers are here; README.md has all.

@@ -13,7 +13,8 @@ use Rattle.hash.proofs.Promises.{sha256-length}
 use Rattle.octets.specs.Answer.{done, refused}
 use Rattle.tree.specs.declared.build.Built.{Built}
 use Rattle.tree.specs.Tree.{root}
-use Rattle.tree.specs.Build.{Outcome, wrote, building, buildReport, over, output, into}
+use Rattle.octets.specs.Bytes.{over}
+use Rattle.tree.specs.Build.{Outcome, wrote, building, buildReport, output, into}
 use Rattle.tree.specs.Build as Build
 use Rattle.tree.proofs.Building.{short, long}
 use Rattle.tree.proofs.Completing.{root-32}

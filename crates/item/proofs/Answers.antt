@@ -2,7 +2,7 @@
 use mathlib.Core.Path.{_≡_}
 use Prim.Native.Nat.{ℕ}
 use native.Mathlib.Omega.{arith}
-use Rattle.item.specs.Answer.{Answer, good, bad}
+use Rattle.item.specs.Checked.{Checked, good, bad}
 
 pub bad-good : {A B : Type 0} (x y : ℕ) (a : A) → bad x y ≡ good a → B
 bad-good x y a e = absurd (let z : _≡_ {A = ℕ} 0 1 = cc in omega arith)
@@ -13,5 +13,5 @@ good-bad x y a e = absurd (let z : _≡_ {A = ℕ} 0 1 = cc in omega arith)
 pub same-good : {A : Type 0} (a b : A) → good a ≡ good b → a ≡ b
 same-good a b e = cc
 
-pub same-place : {A : Type 0} (x y p q : ℕ) → _≡_ {A = Answer A} (bad x p) (bad y q) → q ≡ p
+pub same-place : {A : Type 0} (x y p q : ℕ) → _≡_ {A = Checked A} (bad x p) (bad y q) → q ≡ p
 same-place x y p q e = cc

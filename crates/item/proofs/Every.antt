@@ -15,7 +15,7 @@ use Rattle.item.specs.declared.reader.Item.the-variants.{Entry, Receipt,
 use Rattle.item.specs.declared.writer.Numbers.{Numbers}
 use Rattle.item.specs.declared.writer.Written.{Written}
 use Rattle.item.specs.declared.writer.Written.the-variants.{Length, Refused as refusedAt}
-use Rattle.item.specs.Answer.{Answer, good, bad}
+use Rattle.item.specs.Checked.{Checked, good, bad}
 use Rattle.item.specs.Layout.{Bytes}
 use Rattle.item.specs.Item.{readItem, Vectors, vectors, writing, Outcome, wrote, writeItem}
 use Rattle.item.specs.Path.{pathAt, copyPath}
@@ -138,11 +138,11 @@ slices t =
       body = ref (t .body);
     }
 
-told : Answer ℕ → Written
+told : Checked ℕ → Written
 told (good n) = Length n
 told (bad x at) = refusedAt x at
 
-told-is : (a : Answer ℕ) → writing (told a) ≡ a
+told-is : (a : Checked ℕ) → writing (told a) ≡ a
 unfolding told
 told-is (good n) = refl
 told-is (bad x at) = refl
@@ -174,7 +174,7 @@ unfolding ref slices
 written-claimed s out i k n t bs e h fit =
     let o = writeItem k n t out in
     let r = read-then-written (ref s) (ref out) (ref (o .bytes)) i k n (slices t) (told (o .answer)) bs (record { lives = ([], tt); learnt = e }) (taken-by (Copied s) (Through (ref s)) s i k n t (copied-through s) h) fit (record { lives = ([], ([], tt)); learnt = (told-is (o .answer), refl) }) in
-    ap₂ (λ (x : Answer ℕ) (y : List ℕ). record { answer = x; bytes = y }) (sym (told-is (o .answer)) ∙ ap writing (r .0)) (r .1)
+    ap₂ (λ (x : Checked ℕ) (y : List ℕ). record { answer = x; bytes = y }) (sym (told-is (o .answer)) ∙ ap writing (r .0)) (r .1)
 
 pub taken-claimed : WrittenThenTaken
 unfolding ref slices

@@ -12,7 +12,7 @@ use Rattle.item.specs.declared.layout.Field.{Field}
 use Rattle.item.specs.declared.layout.Field.the-variants.{Uint, Vector}
 use Rattle.item.specs.declared.layout.Inside.{Inside}
 use Rattle.item.specs.declared.layout.Inside.the-variants.{Fine, Wrong}
-use Rattle.item.specs.Answer.{good, bad}
+use Rattle.item.specs.Checked.{good, bad}
 use Rattle.item.specs.Layout.{be, inside}
 use Rattle.item.specs.Write.{Value, numberIn, bytesIn, wrap, bodySize, wholes, fine, fill}
 use Rattle.item.proofs.Answers.{bad-good, same-good}

@@ -12,7 +12,7 @@ use Rattle.item.specs.declared.layout.Part.{Part}
 use Rattle.item.specs.declared.layout.Inner.the-variants.{NodeList}
 use Rattle.item.specs.declared.layout.Inside.{Inside}
 use Rattle.item.specs.declared.layout.Inside.the-variants.{Fine, Wrong}
-use Rattle.item.specs.Answer.{good, bad}
+use Rattle.item.specs.Checked.{good, bad}
 use Rattle.item.specs.Layout.{be, inside, cut}
 use Rattle.item.specs.Write.{prefixed, stripped, unwrap, fine}
 use Rattle.item.specs.Path.{encoded, joined, pathAt}

@@ -17,7 +17,7 @@ use Rattle.item.specs.declared.table.Name.the-variants.{Timestamp, Size,
 use Rattle.item.specs.declared.table.Case.{Case}
 use Rattle.item.specs.declared.table.Case.the-variants.{Entry, Receipt, SignedHead, Consistency, Inclusion, Page}
 use Rattle.item.specs.declared.writer.Numbers.{Numbers}
-use Rattle.item.specs.Answer.{Answer, good, bad, then}
+use Rattle.item.specs.Checked.{Checked, good, bad, then}
 use Rattle.item.specs.Layout.{unbe, be, field, next, push, read, cut}
 use Rattle.item.specs.Write.{fill, Filled, join, write, values, opened, unwrap, stripped}
 use Rattle.item.specs.Table.{limit, Row, fieldOf, namesOf, layoutOf, types, find}
@@ -48,13 +48,13 @@ was-read s r e = go (ltb limit (length s)) (ltb (length s) 2) (find types k) ref
     k : ℕ
     k = unbe (take 2 s)
 
-    inner : (c : Case) (a : Answer (List Part)) → find types k ≡ good c → read (layoutOf c) s 2 ≡ a → then a (item c k) ≡ good r → length s ≤ limit → 2 ≤ length s → WasRead s r
+    inner : (c : Case) (a : Checked (List Part)) → find types k ≡ good c → read (layoutOf c) s 2 ≡ a → then a (item c k) ≡ good r → length s ≤ limit → 2 ≤ length s → WasRead s r
     inner c (bad x y) hc ha e l t = bad-good x y r e
     inner c (good ps) hc ha e l t =
         subst (WasRead s) (same-good (record { case = c; kind = k; fields = ps }) r e)
         (record { short = l; typed = t; kind = refl; case = hc; fields = ha })
 
-    go : (a b : Bool) (c : Answer Case) → ltb limit (length s) ≡ a → ltb (length s) 2 ≡ b → find types k ≡ c → cond a (bad 1 0) (cond b (bad 2 0) (then c (λ d. then (read (layoutOf d) s 2) (item d k)))) ≡ good r → WasRead s r
+    go : (a b : Bool) (c : Checked Case) → ltb limit (length s) ≡ a → ltb (length s) 2 ≡ b → find types k ≡ c → cond a (bad 1 0) (cond b (bad 2 0) (then c (λ d. then (read (layoutOf d) s 2) (item d k)))) ≡ good r → WasRead s r
     go true b c ha hb hc e = bad-good 1 0 r e
     go false true c ha hb hc e = bad-good 2 0 r e
     go false false (bad x y) ha hb hc e = bad-good x y r e
@@ -82,14 +82,14 @@ refused-within s x at e = go (ltb limit (length s)) (ltb (length s) 2) (find typ
     k : ℕ
     k = unbe (take 2 s)
 
-    inner : (c : Case) (a : Answer (List Part)) → read (layoutOf c) s 2 ≡ a → then a (item c k) ≡ bad x at → 2 ≤ length s → at ≤ length s
+    inner : (c : Case) (a : Checked (List Part)) → read (layoutOf c) s 2 ≡ a → then a (item c k) ≡ bad x at → 2 ≤ length s → at ≤ length s
     inner c (good ps) ha e t = good-bad x at _ e
     inner c (bad y z) ha e t = place-within s (layoutOf c) 2 x at t (ha ∙ again y z e)
       where
-        again : (y z : ℕ) → _≡_ {A = Answer Reading} (bad y z) (bad x at) → _≡_ {A = Answer (List Part)} (bad y z) (bad x at)
+        again : (y z : ℕ) → _≡_ {A = Checked Reading} (bad y z) (bad x at) → _≡_ {A = Checked (List Part)} (bad y z) (bad x at)
         again y z e = let p : y ≡ x = cc in let q : z ≡ at = cc in rw (p, q)
 
-    go : (a b : Bool) (c : Answer Case) → ltb (length s) 2 ≡ b → find types k ≡ c → cond a (bad 1 0) (cond b (bad 2 0) (then c (λ d. then (read (layoutOf d) s 2) (item d k)))) ≡ bad x at → at ≤ length s
+    go : (a b : Bool) (c : Checked Case) → ltb (length s) 2 ≡ b → find types k ≡ c → cond a (bad 1 0) (cond b (bad 2 0) (then c (λ d. then (read (layoutOf d) s 2) (item d k)))) ≡ bad x at → at ≤ length s
     go true b c hb hc e = omega (arith, same-place 1 x 0 at e)
     go false true c hb hc e = omega (arith, same-place 2 x 0 at e)
     go false false (bad y z) hb hc e = omega (arith, same-place y x z at e, find-place types k y z hc)
@@ -153,11 +153,11 @@ unfolding write
 write-short [] at b e = omega (arith, ap length (same-good [] b e))
 write-short (f ∷ fs) at b e = go (fill (f .field) (f .value) at) refl e (λ c. write-short fs (at + length c))
   where
-    go : (x : Answer (List ℕ)) → fill (f .field) (f .value) at ≡ x → then x (λ c. join c (write fs (at + length c))) ≡ good b → ((c d : List ℕ) → write fs (at + length c) ≡ good d → length d ≤ total (layout fs)) → length b ≤ most (f .field) + total (layout fs)
+    go : (x : Checked (List ℕ)) → fill (f .field) (f .value) at ≡ x → then x (λ c. join c (write fs (at + length c))) ≡ good b → ((c d : List ℕ) → write fs (at + length c) ≡ good d → length d ≤ total (layout fs)) → length b ≤ most (f .field) + total (layout fs)
     go (bad x y) h e less = bad-good x y b e
     go (good c) h e less = deep (write fs (at + length c)) refl e
       where
-        deep : (a : Answer (List ℕ)) → write fs (at + length c) ≡ a → join c a ≡ good b → length b ≤ most (f .field) + total (layout fs)
+        deep : (a : Checked (List ℕ)) → write fs (at + length c) ≡ a → join c a ≡ good b → length b ≤ most (f .field) + total (layout fs)
         deep (bad x y) k e = bad-good x y b e
         deep (good d) k e = omega (arith, ap length (same-good (c ++ d) b e), length-append c d, less c d k, fill-short (f .field) (f .value) at c h)
 
@@ -174,15 +174,15 @@ was-written : (k : ℕ) (n : Numbers) (t : Vectors) (out : List ℕ) (m : ℕ) �
 unfolding writeItem
 was-written k n t out m e = go (find types k) refl e
   where
-    go : (c : Answer Case) → find types k ≡ c → outcome out (then c (λ d. join (be 2 k) (write (filled n t (namesOf d)) 2))) .answer ≡ good m → WasWritten k n t out m
+    go : (c : Checked Case) → find types k ≡ c → outcome out (then c (λ d. join (be 2 k) (write (filled n t (namesOf d)) 2))) .answer ≡ good m → WasWritten k n t out m
     go (bad x y) hc e = bad-good x y m e
     go (good c) hc e = deep (write (filled n t (namesOf c)) 2) refl e
       where
-        deep : (a : Answer (List ℕ)) → write (filled n t (namesOf c)) 2 ≡ a → outcome out (join (be 2 k) a) .answer ≡ good m → WasWritten k n t out m
+        deep : (a : Checked (List ℕ)) → write (filled n t (namesOf c)) 2 ≡ a → outcome out (join (be 2 k) a) .answer ≡ good m → WasWritten k n t out m
         deep (bad x y) ha e = bad-good x y m e
         deep (good b) ha e = last (ltb (length out) (length (be 2 k ++ b))) refl e
           where
-            last : (q : Bool) → ltb (length out) (length (be 2 k ++ b)) ≡ q → _≡_ {A = Answer ℕ} (cond {A = Outcome} q (unwritten 9 0 out) (wrote (be 2 k ++ b) out) .answer) (good m) → WasWritten k n t out m
+            last : (q : Bool) → ltb (length out) (length (be 2 k ++ b)) ≡ q → _≡_ {A = Checked ℕ} (cond {A = Outcome} q (unwritten 9 0 out) (wrote (be 2 k ++ b) out) .answer) (good m) → WasWritten k n t out m
             last true hq e = bad-good 9 0 m e
             last false hq e =
                 let z = same-good (length (be 2 k ++ b)) m e in
@@ -231,7 +231,7 @@ read-count (f ∷ fs) s at ps e = go (field f (drop at s) at) e (λ p. read-coun
     go (Bad x y) e less = bad-good x y ps e
     go (Found p) e less = more (read fs s (p .start + p .len)) refl e
       where
-        more : (a : Answer (List Part)) → read fs s (p .start + p .len) ≡ a → push p a ≡ good ps → length ps ≡ suc (length fs)
+        more : (a : Checked (List Part)) → read fs s (p .start + p .len) ≡ a → push p a ≡ good ps → length ps ≡ suc (length fs)
         more (bad x y) ha e = bad-good x y ps e
         more (good qs) ha e = sym (ap length (same-good (p ∷ qs) ps e)) ∙ ap suc (less p qs ha)
 

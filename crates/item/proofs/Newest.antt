@@ -10,7 +10,7 @@ use Rattle.item.specs.declared.heads.Head.{Head}
 use Rattle.item.specs.declared.heads.Head.the-variants.{Read, Unreadable}
 use Rattle.item.specs.declared.heads.Choice.{Choice}
 use Rattle.item.specs.declared.heads.Choice.the-variants.{First, Second, Neither}
-use Rattle.item.specs.Answer.{Answer, good, bad}
+use Rattle.item.specs.Checked.{Checked, good, bad}
 use Rattle.item.specs.Item.{Reading, readItem}
 use Rattle.item.specs.Newer.{headOf, chosen, handed}
 use Rattle.item.specs.Claims.{EmptyIsNeither}
@@ -20,7 +20,7 @@ use Rattle.item.proofs.Items.{two-bytes}
 some : (s : List ℕ) (l : Part) (t z : ℕ) → headOf (readItem s) ≡ Read l t z → 2 ≤ length s
 some s l t z e = go (readItem s) refl e
   where
-    go : (a : Answer Reading) → readItem s ≡ a → headOf a ≡ Read l t z → 2 ≤ length s
+    go : (a : Checked Reading) → readItem s ≡ a → headOf a ≡ Read l t z → 2 ≤ length s
     go (good r) h e = two-bytes s r h
     go (bad x y) h e = absurd (let q : _≡_ {A = ℕ} 0 1 = cc in omega arith)
 

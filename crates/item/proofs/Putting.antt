@@ -7,7 +7,7 @@ use native.Mathlib.Numerals.{add-one}
 use native.Mathlib.Nat.{add-assoc, suc-add, zero-add, pow-le-pow-right, mod-eq-of-lt, lt-of-lt-of-le}
 use lib.ListN.{length, getD, take, drop, set, length-append, length-drop, take-append-drop}
 use lib.Seq.{drop-length, take-at, drop-at, drop-append-add, drop-drop, take-add, set-split, length-take-le, take-length}
-use Rattle.item.specs.Answer.{Answer, good, bad, then}
+use Rattle.item.specs.Checked.{Checked, good, bad, then}
 use Rattle.item.specs.Layout.{be}
 use Rattle.item.specs.Write.{prefixed, fill, Filled, join, write}
 use Rattle.item.specs.Steps.{put, written, Good}
@@ -83,7 +83,7 @@ be-tail (suc k) w n h =
     ap (λ (j : ℕ). drop (suc k) (be j n)) (suc-add k w) ∙ ap (λ (j : ℕ). drop k (be (k + w) j)) m ∙ be-tail k w n h
 
 -- an answer that is good
-pub good-is : (a : Answer (List ℕ)) → Good a → a ≡ good (written a)
+pub good-is : (a : Checked (List ℕ)) → Good a → a ≡ good (written a)
 good-is (good b) g = refl
 good-is (bad x y) g = absurd g
 
@@ -97,11 +97,11 @@ pub record Next (f : Filled) (at : ℕ) (b : List ℕ) (rest : List Filled) : Ty
 pub next-field : (fs : List Filled) (at i : ℕ) (b : List ℕ) → i < length fs → (f : Filled) → getD fs i nothing ≡ f → write (drop i fs) at ≡ good b → Next f at b (drop (i + 1) fs)
 next-field fs at i b more f is e = go (fill (f .field) (f .value) at) refl (sym (this fs at i more f is) ∙ e)
   where
-    go : (a : Answer (List ℕ)) → fill (f .field) (f .value) at ≡ a → then a (λ c. join c (write (drop (i + 1) fs) (at + length c))) ≡ good b → Next f at b (drop (i + 1) fs)
+    go : (a : Checked (List ℕ)) → fill (f .field) (f .value) at ≡ a → then a (λ c. join c (write (drop (i + 1) fs) (at + length c))) ≡ good b → Next f at b (drop (i + 1) fs)
     go (bad x y) h e = absurd (let z : _≡_ {A = ℕ} 0 1 = cc in omega arith)
     go (good c) h e = deep (write (drop (i + 1) fs) (at + length c)) refl e
       where
-        deep : (a : Answer (List ℕ)) → write (drop (i + 1) fs) (at + length c) ≡ a → join c a ≡ good b → Next f at b (drop (i + 1) fs)
+        deep : (a : Checked (List ℕ)) → write (drop (i + 1) fs) (at + length c) ≡ a → join c a ≡ good b → Next f at b (drop (i + 1) fs)
         deep (bad x y) k e = absurd (let z : _≡_ {A = ℕ} 0 1 = cc in omega arith)
         deep (good d) k e =
             let s : b ≡ c ++ d = cc in

@@ -11,7 +11,7 @@ use Rattle.item.specs.declared.layout.Part.{Part}
 use Rattle.item.specs.declared.layout.Field.{Field}
 use Rattle.item.specs.declared.layout.Field.the-variants.{Uint}
 use Rattle.item.specs.declared.layout.FieldRead.the-variants.{Found, Bad}
-use Rattle.item.specs.Answer.{Answer, good, bad}
+use Rattle.item.specs.Checked.{Checked, good, bad}
 use Rattle.item.specs.Layout.{field, next, push, read}
 
 abbrev pub none : Part
@@ -33,15 +33,15 @@ pub take-firsts : (n : ℕ) (l : List Part) → n ≤ length l → take n l ≡ 
 take-firsts n l h = take-from n 0 l (omega arith)
 
 -- what is read, after parts that were read before
-abbrev pub resume : List Part → Answer (List Part) → Answer (List Part)
+abbrev pub resume : List Part → Checked (List Part) → Checked (List Part)
 resume ps (good qs) = good (ps ++ qs)
 resume ps (bad x at) = bad x at
 
-resume-push : (ps : List Part) (p : Part) (a : Answer (List Part)) → resume ps (push p a) ≡ resume (ps ++ (p ∷ [])) a
+resume-push : (ps : List Part) (p : Part) (a : Checked (List Part)) → resume ps (push p a) ≡ resume (ps ++ (p ∷ [])) a
 resume-push ps p (good qs) = ap good (sym (append-assoc ps (p ∷ []) qs))
 resume-push ps p (bad x at) = refl
 
-resume-none : (a : Answer (List Part)) → resume [] a ≡ a
+resume-none : (a : Checked (List Part)) → resume [] a ≡ a
 resume-none (good qs) = refl
 resume-none (bad x at) = refl
 

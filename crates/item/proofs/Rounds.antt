@@ -12,7 +12,7 @@ use Rattle.item.specs.declared.layout.Part.{Part}
 use Rattle.item.specs.declared.layout.Field.{Field}
 use Rattle.item.specs.declared.layout.FieldRead.{FieldRead}
 use Rattle.item.specs.declared.layout.FieldRead.the-variants.{Found, Bad}
-use Rattle.item.specs.Answer.{Answer, good, bad, then}
+use Rattle.item.specs.Checked.{Checked, good, bad, then}
 use Rattle.item.specs.Layout.{Bytes, field, next, push, read}
 use Rattle.item.specs.Steps.{part}
 use Rattle.item.specs.Write.{fill, Filled, join, write, values, Value}
@@ -43,7 +43,7 @@ write-again (f ∷ fs) s at ps bs h e =
     go (Bad x y) hx e less = bad-good x y ps e
     go (Found p) hx e less = more (read fs s (p .start + p .len)) refl e
       where
-        more : (a : Answer (List Part)) → read fs s (p .start + p .len) ≡ a → push p a ≡ good ps → write (values (f ∷ fs) ps s) at ≡ good (drop at s)
+        more : (a : Checked (List Part)) → read fs s (p .start + p .len) ≡ a → push p a ≡ good ps → write (values (f ∷ fs) ps s) at ≡ good (drop at s)
         more (bad x y) ha e = bad-good x y ps e
         more (good qs) ha e =
             let w : p .start + p .len ≤ length s = omega (arith, found-within f (drop at s) at p hx, length-drop at s) in
@@ -75,11 +75,11 @@ read-back [] front b w e =
     record { parts = []; read = rw (le-ltb _ _ z); same = refl }
 read-back (f ∷ fs) front b (one-field wf w) e = go (fill (f .field) (f .value) (length front)) refl e (λ g c. read-back fs g c w)
   where
-    go : (x : Answer (List ℕ)) → fill (f .field) (f .value) (length front) ≡ x → then x (λ c. join c (write fs (length front + length c))) ≡ good b → ((g c : List ℕ) → write fs (length g) ≡ good c → ReadBack fs g c) → ReadBack (f ∷ fs) front b
+    go : (x : Checked (List ℕ)) → fill (f .field) (f .value) (length front) ≡ x → then x (λ c. join c (write fs (length front + length c))) ≡ good b → ((g c : List ℕ) → write fs (length g) ≡ good c → ReadBack fs g c) → ReadBack (f ∷ fs) front b
     go (bad x y) hx e less = bad-good x y b e
     go (good c) hx e less = more (write fs (length front + length c)) refl e
       where
-        more : (a : Answer (List ℕ)) → write fs (length front + length c) ≡ a → join c a ≡ good b → ReadBack (f ∷ fs) front b
+        more : (a : Checked (List ℕ)) → write fs (length front + length c) ≡ a → join c a ≡ good b → ReadBack (f ∷ fs) front b
         more (bad x y) ha e = bad-good x y b e
         more (good d) ha e =
             let k = kept (f .field) (f .value) front c d wf hx in

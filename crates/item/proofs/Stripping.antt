@@ -11,7 +11,7 @@ use Rattle.item.specs.declared.layout.Part.{Part}
 use Rattle.item.specs.declared.layout.Inner.the-variants.{NodeList}
 use Rattle.item.specs.declared.layout.Inside.{Inside}
 use Rattle.item.specs.declared.layout.Inside.the-variants.{Fine, Wrong}
-use Rattle.item.specs.Answer.{good}
+use Rattle.item.specs.Checked.{good}
 use Rattle.item.specs.Layout.{inside, cut}
 use Rattle.item.specs.Write.{stripped, unwrap, fine}
 use Rattle.item.specs.Item.{unwritten, outcome}

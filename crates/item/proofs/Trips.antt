@@ -18,7 +18,7 @@ use Rattle.item.specs.declared.table.Case.the-variants.{Entry, Receipt, 
 use Rattle.item.specs.declared.reader.Item.{Item}
 use Rattle.item.specs.declared.reader.Item.the-variants.{Entry as entry, Receipt as receipt, SignedHead as signedHead, Consistency as consistency, Inclusion as inclusion, Page as page, Refused as refused}
 use Rattle.item.specs.declared.writer.Numbers.{Numbers}
-use Rattle.item.specs.Answer.{Answer, good, bad}
+use Rattle.item.specs.Checked.{Checked, good, bad}
 use Rattle.item.specs.Layout.{unbe, inside, field, cut}
 use Rattle.item.specs.Write.{Filled, numberIn, bytesIn, unwrap, opened, values}
 use Rattle.item.specs.Table.{namesOf, layoutOf}
@@ -156,7 +156,7 @@ given-taken s i r k n t e d g = go i e
 pub taken-then-written : TakenThenWritten
 taken-then-written s out i k n t bs e h fit = go (reading i) refl e
   where
-    go : (a : Answer Reading) → reading i ≡ a → a ≡ readItem s → writeItem k n t out ≡ wrote s out
+    go : (a : Checked Reading) → reading i ≡ a → a ≡ readItem s → writeItem k n t out ≡ wrote s out
     go (good r) ha e = read-then-written s out r k n t bs (sym e) (taken-given s i r k n t ha h) fit
     go (bad x y) ha e = absurd (refused-not i ha h)
       where

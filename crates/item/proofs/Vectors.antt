@@ -13,7 +13,7 @@ use Rattle.item.specs.declared.layout.Field.{Field}
 use Rattle.item.specs.declared.layout.Field.the-variants.{Uint, Vector}
 use Rattle.item.specs.declared.layout.FieldRead.the-variants.{Found}
 use Rattle.item.specs.declared.layout.Inside.the-variants.{Fine}
-use Rattle.item.specs.Answer.{good}
+use Rattle.item.specs.Checked.{good}
 use Rattle.item.specs.Layout.{Bytes, no-bytes, one-byte, cut, unbe, be, inside, field}
 use Rattle.item.specs.Steps.{part}
 use Rattle.item.specs.Write.{wrap, unwrap, bodySize, wholes, fine, fill, opened, Value, uint, bytes}

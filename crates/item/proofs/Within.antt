@@ -10,7 +10,7 @@ use Rattle.item.specs.declared.layout.Part.{Part}
 use Rattle.item.specs.declared.layout.Field.{Field}
 use Rattle.item.specs.declared.layout.FieldRead.{FieldRead}
 use Rattle.item.specs.declared.layout.FieldRead.the-variants.{Found, Bad}
-use Rattle.item.specs.Answer.{Answer, good, bad}
+use Rattle.item.specs.Checked.{Checked, good, bad}
 use Rattle.item.specs.Layout.{field, next, push, read}
 use Rattle.item.specs.Claims.{Each}
 use Rattle.item.proofs.Answers.{bad-good, good-bad, same-good, same-place}
@@ -50,7 +50,7 @@ module _ (s : List ℕ) where
       go (Bad x y) hx e less = bad-good x y ps e
       go (Found p) hx e less = more (read fs s (p .start + p .len)) refl e
         where
-          more : (a : Answer (List Part)) → read fs s (p .start + p .len) ≡ a → push p a ≡ good ps → Both P (f ∷ fs) ps
+          more : (a : Checked (List Part)) → read fs s (p .start + p .len) ≡ a → push p a ≡ good ps → Both P (f ∷ fs) ps
           more (bad x y) ha e = bad-good x y ps e
           more (good qs) ha e = subst (λ (x : List Part). Both P (f ∷ fs) x) (same-good (p ∷ qs) ps e) (one f at p h hx, less p qs (found-inside f at p h hx) ha)
 
@@ -61,7 +61,7 @@ module _ (s : List ℕ) where
   unfolding read
   place-within [] at x y h e = go (ltb at (length s)) refl e
     where
-      go : (b : Bool) → ltb at (length s) ≡ b → _≡_ {A = Answer (List Part)} (cond b (bad 3 at) (good [])) (bad x y) → y ≤ length s
+      go : (b : Bool) → ltb at (length s) ≡ b → _≡_ {A = Checked (List Part)} (cond b (bad 3 at) (good [])) (bad x y) → y ≤ length s
       go true q e = omega (arith, same-place 3 x at y e)
       go false q e = good-bad x y _ e
   place-within (f ∷ fs) at x y h e = go (field f (drop at s) at) refl e (λ p. place-within fs (p .start + p .len) x y)
@@ -70,6 +70,6 @@ module _ (s : List ℕ) where
       go (Bad u v) hz e less = omega (arith, same-place u x v y e, refused-within f (drop at s) at u v hz, length-drop at s)
       go (Found p) hz e less = more (read fs s (p .start + p .len)) refl e
         where
-          more : (a : Answer (List Part)) → read fs s (p .start + p .len) ≡ a → push p a ≡ bad x y → y ≤ length s
+          more : (a : Checked (List Part)) → read fs s (p .start + p .len) ≡ a → push p a ≡ bad x y → y ≤ length s
           more (good qs) ha e = good-bad x y _ e
           more (bad u v) ha e = less p (found-inside f at p h hz) (rw ha e)

@@ -10,7 +10,7 @@ use lib.Seq.{drop-cons, drop-length}
 use Rattle.item.specs.declared.layout.Field.{Field}
 use Rattle.item.specs.declared.layout.Field.the-variants.{Uint, Vector}
 use Rattle.item.specs.declared.writer.Fill.the-variants.{Takes, Not}
-use Rattle.item.specs.Answer.{Answer, good, bad, then}
+use Rattle.item.specs.Checked.{Checked, good, bad, then}
 use Rattle.item.specs.Write.{Value, uint, fill, Filled, join, write}
 use Rattle.item.specs.Steps.{Narrow, held, takes, ends}
 use Rattle.item.proofs.Digits.{be-length}
@@ -19,7 +19,7 @@ use Rattle.item.proofs.Fills.{most, fill-short}
 abbrev pub nothing : Filled
 nothing = record { field = Uint 0; value = uint 0 }
 
-ends-join : (at : ℕ) (b : List ℕ) (a : Answer (List ℕ)) → ends at (join b a) ≡ ends (at + length b) a
+ends-join : (at : ℕ) (b : List ℕ) (a : Checked (List ℕ)) → ends at (join b a) ≡ ends (at + length b) a
 ends-join at b (good r) = ap Takes (ap (λ (k : ℕ). at + k) (length-append b r) ∙ sym (add-assoc at (length b) (length r)))
 ends-join at b (bad x y) = refl
 
@@ -48,14 +48,14 @@ module _ (fs : List Filled) (at i : ℕ) (more : i < length fs) (f : Filled) (is
   pub stops : (x y : ℕ) → takes (fill (f .field) (f .value) at) ≡ Not x y → ends at (write (drop i fs) at) ≡ Not x y
   stops x y e = ap (ends at) this ∙ go (fill (f .field) (f .value) at) e
     where
-      go : (a : Answer (List ℕ)) → takes a ≡ Not x y → ends at (then a (λ b. join b (write (drop (i + 1) fs) (at + length b)))) ≡ Not x y
+      go : (a : Checked (List ℕ)) → takes a ≡ Not x y → ends at (then a (λ b. join b (write (drop (i + 1) fs) (at + length b)))) ≡ Not x y
       go (good b) e = takes-not x y (length b) e
       go (bad p q) e = e
 
   pub goes : (m : ℕ) → takes (fill (f .field) (f .value) at) ≡ Takes m → ends at (write (drop i fs) at) ≡ ends (at + m) (write (drop (i + 1) fs) (at + m))
   goes m e = ap (ends at) this ∙ go (fill (f .field) (f .value) at) e
     where
-      go : (a : Answer (List ℕ)) → takes a ≡ Takes m → ends at (then a (λ b. join b (write (drop (i + 1) fs) (at + length b)))) ≡ ends (at + m) (write (drop (i + 1) fs) (at + m))
+      go : (a : Checked (List ℕ)) → takes a ≡ Takes m → ends at (then a (λ b. join b (write (drop (i + 1) fs) (at + length b)))) ≡ ends (at + m) (write (drop (i + 1) fs) (at + m))
       go (good b) e =
           ends-join at b (write (drop (i + 1) fs) (at + length b))
           ∙ ap (λ (k : ℕ). ends (at + k) (write (drop (i + 1) fs) (at + k))) (same-takes (length b) m e)
@@ -73,6 +73,6 @@ fill-small f v at m n e = go (fill f v at) refl e
     most-small (Uint w) n = omega arith
     most-small (Vector w least x i) n = omega (arith, n .0, n .1)
 
-    go : (a : Answer (List ℕ)) → fill f v at ≡ a → takes a ≡ Takes m → m ≤ 4294967303
+    go : (a : Checked (List ℕ)) → fill f v at ≡ a → takes a ≡ Takes m → m ≤ 4294967303
     go (good b) h e = omega (arith, same-takes (length b) m e, fill-short f v at b h, most-small f n)
     go (bad x y) h e = not-takes x y m e

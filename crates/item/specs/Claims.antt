@@ -12,7 +12,7 @@ use Rattle.item.specs.declared.reader.Item.the-variants.{Entry as entry,
 use Rattle.item.specs.declared.reader.Item.the-variants.{Inclusion as inclusion, Page as page, Refused as refused}
 use Rattle.item.specs.declared.heads.Choice.the-variants.{Neither}
 use Rattle.item.specs.declared.writer.Numbers.{Numbers}
-use Rattle.item.specs.Answer.{good, bad}
+use Rattle.item.specs.Checked.{good, bad}
 use Rattle.item.specs.Layout.{Bytes, cut}
 use Rattle.item.specs.Write.{values}
 use Rattle.item.specs.Table.{namesOf, layoutOf}

@@ -14,7 +14,7 @@ use Rattle.item.specs.declared.table.Name.the-variants.{Timestamp, Size,
 use Rattle.item.specs.declared.writer.Numbers.{Numbers}
 use Rattle.item.specs.declared.writer.Written.{Written}
 use Rattle.item.specs.declared.writer.Written.the-variants.{Length, Refused as refusedAt}
-use Rattle.item.specs.Answer.{Answer, good, bad, then}
+use Rattle.item.specs.Checked.{Checked, good, bad, then}
 use Rattle.item.specs.Layout.{unbe, be, read}
 use Rattle.item.specs.Write.{Value, uint, bytes, Filled, join, write}
 use Rattle.item.specs.Table.{limit, fieldOf, namesOf, layoutOf, types, find}
@@ -25,11 +25,11 @@ pub record Reading : Type 0 where
   pub kind : ℕ
   pub fields : List Part
 
-abbrev pub item : Case → ℕ → List Part → Answer Reading
+abbrev pub item : Case → ℕ → List Part → Checked Reading
 item c k ps = good (record { case = c; kind = k; fields = ps })
 
 -- what each case of the reader's answer says
-abbrev pub reading : Item → Answer Reading
+abbrev pub reading : Item → Checked Reading
 reading (entry k timestamp issuerKeyHash certificate extensions) =
     item Entry k (timestamp ∷ issuerKeyHash ∷ certificate ∷ extensions ∷ [])
 reading (receipt k logId timestamp extensions signature) =
@@ -45,7 +45,7 @@ reading (page k timestamp agreement number body) =
 reading (refused number place) = bad number place
 
 -- a whole item: 1 at 0 if it is too long; then the two bytes of its type; then its fields
-unfoldable pub readItem : List ℕ → Answer Reading
+unfoldable pub readItem : List ℕ → Checked Reading
 readItem s =
     cond (ltb limit (length s)) (bad 1 0)
     (cond (ltb (length s) 2) (bad 2 0)
@@ -88,13 +88,13 @@ abbrev pub filled : Numbers → Vectors → List Name → List Filled
 filled n t ns = map (λ (x : Name). record { field = fieldOf x; value = valueOf n t x }) ns
 
 -- what each case of the writer's answer says
-abbrev pub writing : Written → Answer ℕ
+abbrev pub writing : Written → Checked ℕ
 writing (Length n) = good n
 writing (refusedAt number place) = bad number place
 
 -- what the writer answers, and what the lent bytes then hold
 pub record Outcome : Type 0 where
-  pub answer : Answer ℕ
+  pub answer : Checked ℕ
   pub bytes : List ℕ
 
 abbrev pub unwritten : ℕ → ℕ → List ℕ → Outcome
@@ -104,7 +104,7 @@ abbrev pub wrote : List ℕ → List ℕ → Outcome
 wrote b out = record { answer = good (length b); bytes = b ++ drop (length b) out }
 
 -- an item put into the lent bytes; 9 at 0 where it does not fit; a refusal leaves the bytes as they are
-abbrev pub outcome : List ℕ → Answer (List ℕ) → Outcome
+abbrev pub outcome : List ℕ → Checked (List ℕ) → Outcome
 outcome out (bad x at) = unwritten x at out
 outcome out (good b) = cond (ltb (length out) (length b)) (unwritten 9 0 out) (wrote b out)
 

@@ -15,7 +15,7 @@ use Rattle.item.specs.declared.layout.Step.{Step}
 use Rattle.item.specs.declared.layout.Step.the-variants.{Size, Not}
 use Rattle.item.specs.declared.layout.Inside.{Inside}
 use Rattle.item.specs.declared.layout.Inside.the-variants.{Fine, Wrong}
-use Rattle.item.specs.Answer.{Answer, good, bad}
+use Rattle.item.specs.Checked.{Checked, good, bad}
 
 -- every element is a byte
 pub data Bytes : List ℕ → Type 0 where
@@ -84,17 +84,17 @@ field (Vector w least most i) r at =
     (record { start = at + w; len = unbe (take w r); value = unbe (take w r) })))))
 
 -- go on past a field, or refuse
-abbrev pub next : {A : Type 0} → FieldRead → (Part → Answer A) → Answer A
+abbrev pub next : {A : Type 0} → FieldRead → (Part → Checked A) → Checked A
 next (Found p) go = go p
 next (Bad x at) go = bad x at
 
 -- one more part in front
-abbrev pub push : Part → Answer (List Part) → Answer (List Part)
+abbrev pub push : Part → Checked (List Part) → Checked (List Part)
 push p (good ps) = good (p ∷ ps)
 push p (bad x at) = bad x at
 
 -- the fields of a layout from a place on, left to right, and nothing after them
-unfoldable pub read : List Field → List ℕ → ℕ → Answer (List Part)
+unfoldable pub read : List Field → List ℕ → ℕ → Checked (List Part)
 read [] s at = cond (ltb at (length s)) (bad 3 at) (good [])
 read (f ∷ fs) s at = next (field f (drop at s) at) (λ p. push p (read fs s (p .start + p .len)))
 

@@ -1,4 +1,4 @@
-pub mod Answer
+pub mod Checked
 pub mod Layout
 pub mod Write
 pub mod Table

@@ -13,7 +13,7 @@ use Rattle.item.specs.declared.heads.Head.{Head}
 use Rattle.item.specs.declared.heads.Head.the-variants.{Read, Unreadable}
 use Rattle.item.specs.declared.heads.Choice.{Choice}
 use Rattle.item.specs.declared.heads.Choice.the-variants.{First, Second, Neither}
-use Rattle.item.specs.Answer.{Answer, good, bad}
+use Rattle.item.specs.Checked.{Checked, good, bad}
 use Rattle.item.specs.Layout.{cut}
 use Rattle.item.specs.Item.{Reading, readItem}
 
@@ -36,7 +36,7 @@ headIn Consistency ps = Unreadable
 headIn Inclusion ps = Unreadable
 headIn Page ps = Unreadable
 
-abbrev pub headOf : Answer Reading → Head
+abbrev pub headOf : Checked Reading → Head
 headOf (good r) = headIn (r .case) (r .fields)
 headOf (bad x at) = Unreadable
 

@@ -6,7 +6,7 @@ use lib.ListN.{length}
 use lib.Dec.{ltb}
 use Rattle.item.specs.declared.layout.Part.{Part}
 use Rattle.item.specs.declared.layout.Inner.the-variants.{NodeList}
-use Rattle.item.specs.Answer.{Answer, bad}
+use Rattle.item.specs.Checked.{Checked, bad}
 use Rattle.item.specs.Layout.{be, inside, cut}
 use Rattle.item.specs.Write.{fine, unwrap}
 use Rattle.item.specs.Item.{Outcome, outcome}
@@ -23,7 +23,7 @@ joined (h ∷ hs) = h ++ joined hs
 
 -- The joined hashes of the path that lies at a part. A part that does not lie in the bytes is a field cut short, where it starts; an element that is
 -- not of ours is refused as the reader refuses it, where it starts. The part's number is not looked at.
-unfoldable pub pathAt : List ℕ → Part → Answer (List ℕ)
+unfoldable pub pathAt : List ℕ → Part → Checked (List ℕ)
 pathAt s p =
     cond (ltb (length s) (p .start + p .len)) (bad 2 (p .start))
     (fine (inside NodeList (cut s p) (p .start)) (unwrap NodeList (cut s p)))

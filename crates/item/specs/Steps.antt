@@ -13,7 +13,7 @@ use Rattle.item.specs.declared.writer.Fill.{Fill}
 use Rattle.item.specs.declared.writer.Fill.the-variants.{Takes, Not}
 use Rattle.item.specs.declared.heads.Head.{Head}
 use Rattle.item.specs.declared.heads.Head.the-variants.{Read, Unreadable}
-use Rattle.item.specs.Answer.{Answer, good, bad}
+use Rattle.item.specs.Checked.{Checked, good, bad}
 use Rattle.item.specs.Write.{Value, uint, bytes, numberIn}
 use Rattle.item.specs.Item.{Vectors, vectors, valueOf}
 use Rattle.item.specs.declared.layout.Field.the-variants.{Uint, Vector}
@@ -28,7 +28,7 @@ Narrow (Uint w) = w ≤ 8
 Narrow (Vector w least most i) = (w ≤ 7) × (most < 2 ^ 32) × (most < 256 ^ w)
 
 -- what the search for a type says
-abbrev pub known : Known → Answer Case
+abbrev pub known : Known → Checked Case
 known (As c) = good c
 known Unknown = bad 4 0
 
@@ -68,20 +68,20 @@ bytesOf t Path = t .path
 bytesOf t Body = t .body
 
 -- how many bytes a field takes; where some fields from a place on end
-abbrev pub takes : Answer (List ℕ) → Fill
+abbrev pub takes : Checked (List ℕ) → Fill
 takes (good b) = Takes (length b)
 takes (bad x at) = Not x at
 
-abbrev pub ends : ℕ → Answer (List ℕ) → Fill
+abbrev pub ends : ℕ → Checked (List ℕ) → Fill
 ends at (good b) = Takes (at + length b)
 ends at (bad x y) = Not x y
 
 -- the bytes of an answer that is good
-abbrev pub written : Answer (List ℕ) → List ℕ
+abbrev pub written : Checked (List ℕ) → List ℕ
 written (good b) = b
 written (bad x at) = []
 
-abbrev pub Good : Answer (List ℕ) → Type 0
+abbrev pub Good : Checked (List ℕ) → Type 0
 Good (good b) = Unit
 Good (bad x at) = ⊥
 

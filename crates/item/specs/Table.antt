@@ -11,7 +11,7 @@ use Rattle.item.specs.declared.table.Name.{Name}
 use Rattle.item.specs.declared.table.Name.the-variants.{Timestamp, Size, SizeOne, SizeTwo, Place, Agreement, PageNumber, LogId, IssuerKeyHash, Certificate, RootHash, Extensions, Signature, Path, Body}
 use Rattle.item.specs.declared.table.Case.{Case}
 use Rattle.item.specs.declared.table.Case.the-variants.{Entry, Receipt, SignedHead, Consistency, Inclusion, Page}
-use Rattle.item.specs.Answer.{Answer, good, bad}
+use Rattle.item.specs.Checked.{Checked, good, bad}
 
 -- the longest item, in bytes
 abbrev pub limit : ℕ
@@ -68,6 +68,6 @@ types =
     ∷ []
 
 -- the line of a type; a type that is not in the list is 4 at 0
-unfoldable pub find : List Row → ℕ → Answer Case
+unfoldable pub find : List Row → ℕ → Checked Case
 find [] k = bad 4 0
 find (r ∷ rs) k = cond (eqb k (r .kind)) (good (r .case)) (find rs k)

@@ -11,7 +11,7 @@ use Rattle.item.specs.declared.layout.Field.{Field}
 use Rattle.item.specs.declared.layout.Field.the-variants.{Uint, Vector}
 use Rattle.item.specs.declared.layout.Inside.{Inside}
 use Rattle.item.specs.declared.layout.Inside.the-variants.{Fine, Wrong}
-use Rattle.item.specs.Answer.{Answer, good, bad, then}
+use Rattle.item.specs.Checked.{Checked, good, bad, then}
 use Rattle.item.specs.Layout.{be, inside, cut}
 
 -- a field's value: a number, or the bytes that a vector stands for
@@ -59,12 +59,12 @@ wholes Opaque n = true
 wholes ExtensionList n = true
 wholes NodeList n = eqb (n % 32) 0
 
-abbrev pub fine : Inside → List ℕ → Answer (List ℕ)
+abbrev pub fine : Inside → List ℕ → Checked (List ℕ)
 fine Fine b = good b
 fine (Wrong x at) b = bad x at
 
 -- a field filled with a value, at a place. Of a vector: 5 for a length out of range, 10 for hashes cut, then the elements' own refusal
-unfoldable pub fill : Field → Value → ℕ → Answer (List ℕ)
+unfoldable pub fill : Field → Value → ℕ → Checked (List ℕ)
 fill (Uint w) v at = good (be w (numberIn v))
 fill (Vector w least most i) v at =
     cond (ltb (bodySize i (length (bytesIn v))) least) (bad 5 at)
@@ -78,12 +78,12 @@ pub record Filled : Type 0 where
   pub field : Field
   pub value : Value
 
-abbrev pub join : List ℕ → Answer (List ℕ) → Answer (List ℕ)
+abbrev pub join : List ℕ → Checked (List ℕ) → Checked (List ℕ)
 join b (good r) = good (b ++ r)
 join b (bad x at) = bad x at
 
 -- the fields one after the other, from a place on
-unfoldable pub write : List Filled → ℕ → Answer (List ℕ)
+unfoldable pub write : List Filled → ℕ → Checked (List ℕ)
 write [] at = good []
 write (f ∷ fs) at = then (fill (f .field) (f .value) at) (λ b. join b (write fs (at + length b)))
 

@@ -14,7 +14,7 @@ ghost use mathlib.Core.Path.{_≡_};
 ghost use mathlib.Core.List.{[], _∷_};
 ghost use Prim.Native.Nat.{_≤_};
 ghost use lib.ListN.{length, take};
-ghost use Rattle.item.specs.Answer.{then};
+ghost use Rattle.item.specs.Checked.{then};
 ghost use Rattle.item.specs.Layout.{read as readLayout};
 ghost use Rattle.item.specs.Table.{namesOf, layoutOf};
 ghost use Rattle.item.specs.Item.{item, reading, readItem};

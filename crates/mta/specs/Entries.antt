@@ -7,7 +7,7 @@ use Rattle.octets.specs.Answer.{Answer, done, refused}
 use Rattle.carry.specs.Forward.{Moved}
 use Rattle.carry.specs.Compare.{Likeness}
 use Rattle.item.specs.declared.writer.Numbers.{Numbers}
-use Rattle.item.specs.Answer.{Answer, good, bad}
+use Rattle.item.specs.Checked.{Checked, good, bad}
 use Rattle.item.specs.Item.{vectors, Outcome, writeItem}
 
 -- carrying: how many bytes of path were written, 0 where two strings were, and whether they were
@@ -28,16 +28,16 @@ differedAfter (done Likeness.ofStrings) was = true
 differedAfter (refused x) was = was
 
 -- the reader or the writer: 0, or the number of its refusal, and the refusal's place, which is set by every call and is 0 where there is none
-abbrev pub numberOf : {A : Type 0} → Answer A → ℕ
+abbrev pub numberOf : {A : Type 0} → Checked A → ℕ
 numberOf (good a) = 0
 numberOf (bad x at) = x
 
-abbrev pub placeOf : {A : Type 0} → Answer A → ℕ
+abbrev pub placeOf : {A : Type 0} → Checked A → ℕ
 placeOf (good a) = 0
 placeOf (bad x at) = at
 
 -- the writer: how many bytes it wrote
-abbrev pub lengthAfter : Answer ℕ → ℕ → ℕ
+abbrev pub lengthAfter : Checked ℕ → ℕ → ℕ
 lengthAfter (good n) was = n
 lengthAfter (bad x at) was = was
 

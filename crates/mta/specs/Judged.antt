@@ -10,7 +10,7 @@ use Rattle.tree.specs.Limits.{largestSize}
 use Rattle.tree.specs.Count.{inclusionCount, consistencyCount}
 use Rattle.tree.specs.Yield.{inclusionRoot, oldRoot, newRoot}
 use Rattle.tree.specs.Verdict.{inclusionVerdict, consistencyVerdict}
-use Rattle.item.specs.Answer.{good}
+use Rattle.item.specs.Checked.{good}
 use Rattle.item.specs.Layout.{cut}
 use Rattle.item.specs.Item.{Reading, readItem, wrote}
 use Rattle.item.specs.Path.{encoded, copyPath}

@@ -6,7 +6,7 @@ ghost use Rattle.hash.specs.Digest.{sha256, leafHash};
 ghost use Rattle.octets.specs.Limits.{mostItem};
 ghost use Rattle.hash.specs.Answers.{mostInput, intoNumber, intoBytes};
 ghost use Rattle.tree.specs.Verdict.{inclusionVerdict, consistencyVerdict};
-ghost use Rattle.sha256.specs.Told.{number};
+ghost use Rattle.octets.specs.Answer.{number};
 ghost use Rattle.tree.specs.Build.{building, buildReport, output, rootBuilt};
 ghost use Rattle.item.specs.Item.{reading, readItem, writing};
 ghost use Rattle.carry.specs.Forward.{carry, pathCarried, pairCarried, carryReport};

@@ -16,7 +16,8 @@ use Rattle.tree.specs.Yield.{inclusionRoot, oldRoot, newRoot}
 use Rattle.octets.specs.Answer.{Answer, done}
 use Rattle.tree.specs.Joined.{firstNodes, nodes, nodeAt, nodesFrom, joined}
 use Rattle.tree.specs.Verdict.{inclusionVerdict, consistencyVerdict}
-use Rattle.tree.specs.Build.{Outcome, refused, wrote, buildReport, over, output, into, unfit, rootBuilt, inclusionBuilt, consistencyBuilt, rootNumber, rootBytes}
+use Rattle.octets.specs.Bytes.{over}
+use Rattle.tree.specs.Build.{Outcome, refused, wrote, buildReport, output, into, unfit, rootBuilt, inclusionBuilt, consistencyBuilt, rootNumber, rootBytes}
 use Rattle.tree.specs.Claims.{Complete}
 use Rattle.tree.proofs.Counting.{path-length, subproof-length}
 use Rattle.tree.proofs.Joining.{All32, at-first, nodes-length, nodes-first, all-nodes, all-take, joined-length, nodes-joined}
@@ -94,7 +95,7 @@ module _ (H : List ℕ → List ℕ) (s : List ℕ) where
   proof-in first room u z h = rw (u, ne-eqb first 0 z, le-ltb (length s / 32) first h)
 
 -- what is told and the output, by the outcome
-pub tells-refused : {o : Outcome} {n : ℕ} (out : List ℕ) → o ≡ refused n → (Told.refused n ≡ buildReport o) × (out ≡ output o out)
+pub tells-refused : {o : Outcome} {n : ℕ} (out : List ℕ) → o ≡ refused n → (Answer.refused n ≡ buildReport o) × (out ≡ output o out)
 unfolding buildReport output
 tells-refused out e = rw e (refl, refl)
 

@@ -19,8 +19,8 @@ pub data Outcome : Type 0 where
   wrote : List ℕ → Outcome
 
 -- what it tells: the number, or how many bytes were written
-unfoldable pub buildReport : Outcome → Told ℕ
-buildReport (refused n) = Told.refused n
+unfoldable pub buildReport : Outcome → Answer ℕ
+buildReport (refused n) = Answer.refused n
 buildReport (wrote w) = done (length w)
 
 -- what each case of the code's answer tells

@@ -2,7 +2,7 @@ use borrow.Author.Needs.{needs}
 use denote.Ref.{now}
 use Prim.Native.Nat.{ℕ}
 use mathlib.Core.Path.{sym, ap, _∙_}
-use Rattle.item.specs.Answer.{Answer}
+use Rattle.item.specs.Checked.{Checked}
 use Rattle.item.specs.Item.{writing}
 use Rattle.mta.specs.Entries.{numberOf, lengthAfter, consistencyWritten}
 use Rattle.mta.proofs.mta_consistency_item.Statement.{statement}
@@ -15,7 +15,7 @@ returns c =
     let a = b .before .before .before .before .before .before .before .args in
     let w = rw (b .before .before .sizes .ensures) at (b .write .ensures) in
     let e = ap writing (sym (c .before .length .given .1)) ∙ w .0 in
-    (ap numberOf e, (w .1, ap (λ (t : Answer ℕ). lengthAfter t (now (a .written))) e))
+    (ap numberOf e, (w .1, ap (λ (t : Checked ℕ). lengthAfter t (now (a .written))) e))
 
 returns-2 : tie.Need-returns-2
 unfolding consistencyWritten
@@ -24,7 +24,7 @@ returns-2 c =
     let a = b .before .before .before .before .before .before .before .args in
     let w = rw (b .before .before .sizes .ensures) at (b .write .ensures) in
     let e = ap writing (sym (c .before .number .given .1)) ∙ w .0 in
-    (ap numberOf e, (w .1, ap (λ (t : Answer ℕ). lengthAfter t (now (a .written))) e))
+    (ap numberOf e, (w .1, ap (λ (t : Checked ℕ). lengthAfter t (now (a .written))) e))
 
 pub mta-consistency-item-spec : {M : Type 1} → statement M
 mta-consistency-item-spec =

@@ -11,7 +11,7 @@ use Rattle.hash.specs.Digest.{sha256}
 use Rattle.carry.specs.Forward.{carry, carrying}
 use Rattle.auditor.specs.Heads.{sizeOf, rootOf, pathOf, headsOf}
 use Rattle.auditor.specs.Dispute.{onward, longestPath, follow, disputeReport, pairDisputed}
-use Rattle.auditor.proofs.Copying.{over-start}
+use Rattle.octets.proofs.Putting.{over-start}
 use Rattle.auditor.proofs.Reading.{head-whole}
 use Rattle.auditor.proofs.Telling.{refused-tells, carried-refused, carried-collision, carried-path}
 use Rattle.auditor.proofs.Following.{Left, rest-is, left-end, left-truncated, left-then}

@@ -5,7 +5,7 @@ use native.Mathlib.Omega.{arith}
 use lib.ListN.{length}
 use denote.Ref.{now}
 use borrow.Author.Needs.{needs}
-use Rattle.sha256.specs.Told.{done}
+use Rattle.octets.specs.Answer.{done}
 use Rattle.auditor.specs.Journal.{appendReport, journalAfter}
 use Rattle.auditor.proofs.Journaling.{head-length, root-short, path-long, path-part, full, fits, refused-tells}
 use Rattle.auditor.proofs.journal.append.Statement.{statement}

@@ -2,7 +2,7 @@
 use mathlib.Core.Path.{sym, ap, _∙_}
 use borrow.Author.Needs.{needs}
 use Rattle.hash.specs.Digest.{sha256}
-use Rattle.tree.proofs.Joining.{same-true}
+use Rattle.octets.proofs.Sameness.{same-true}
 use Rattle.carry.specs.Inner.{differenceOf}
 use Rattle.carry.proofs.Pairing.{top-same, top-apart}
 use Rattle.carry.proofs.level.above.Statement.{statement}

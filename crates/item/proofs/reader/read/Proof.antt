@@ -5,7 +5,7 @@ use native.Mathlib.Omega.{arith}
 use lib.ListN.{length, take}
 use borrow.Author.Tests.{lt-ltb, le-ltb}
 use Rattle.item.specs.declared.table.Case.{Case}
-use Rattle.item.specs.Answer.{good, bad, then}
+use Rattle.item.specs.Checked.{good, bad, then}
 use Rattle.item.specs.Layout.{unbe, read}
 use Rattle.item.specs.Table.{limit, layoutOf, types, find}
 use Rattle.item.specs.Item.{item, readItem}

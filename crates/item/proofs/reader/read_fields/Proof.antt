@@ -8,7 +8,7 @@ use Rattle.item.specs.declared.layout.Part.{Part}
 use Rattle.item.specs.declared.layout.Field.the-variants.{Uint}
 use Rattle.item.specs.declared.layout.FieldRead.the-variants.{Found}
 use Rattle.item.specs.declared.table.Name.the-variants.{Timestamp}
-use Rattle.item.specs.Answer.{Answer, then}
+use Rattle.item.specs.Checked.{Checked, then}
 use Rattle.item.specs.Layout.{field, read}
 use Rattle.item.specs.Table.{namesOf, layoutOf}
 use Rattle.item.specs.Item.{item}
@@ -82,7 +82,7 @@ returns c =
     let f = c .before .before .before in
     let l = top f in
     let a = l .before .before .before .before .args in
-    sym (ap (λ (x : Answer (List Part)). then x (item (a .case) (a .kind)))
+    sym (ap (λ (x : Checked (List Part)). then x (item (a .case) (a .kind)))
     (l .loop .inv .3 ∙ stops (layoutOf (a .case)) (a .s .now) (l .loop .parts) (l .loop .at) (l .loop .i) (left f) _ (is f) _ _ (sym (f .read-field .ensures) ∙ c .before .r .given .1)))
 
 enum-known-r-2 : tie.Need-enum-known-r-2 Inv-loop μ-loop
@@ -120,7 +120,7 @@ returns-2 c =
     let l = c .before .before in
     let a = l .before .before .before .before .args in
     let e : l .loop .i ≡ length (layoutOf (a .case)) = rw (layout-length (a .case)) (omega (arith, l .before .count-of .ensures .0)) in
-    sym (ap (λ (x : Answer (List Part)). then x (item (a .case) (a .kind)))
+    sym (ap (λ (x : Checked (List Part)). then x (item (a .case) (a .kind)))
     (l .loop .inv .3 ∙ extra (layoutOf (a .case)) (a .s .now) (l .loop .parts) (l .loop .at) (l .loop .i) e (omega arith)))
 
 named-requires : tie.Need-named-requires Inv-loop μ-loop
@@ -134,7 +134,7 @@ returns-3 c =
     let e : l .loop .i ≡ length (layoutOf (a .case)) = rw (layout-length (a .case)) n in
     c .named .ensures
     ∙ ap (λ (k : ℕ). item (a .case) (a .kind) (take k (l .loop .parts))) (sym n)
-    ∙ sym (ap (λ (x : Answer (List Part)). then x (item (a .case) (a .kind)))
+    ∙ sym (ap (λ (x : Checked (List Part)). then x (item (a .case) (a .kind)))
     (l .loop .inv .3 ∙ all (layoutOf (a .case)) (a .s .now) (l .loop .parts) (l .loop .at) (l .loop .i) e (omega arith)))
 
 pub read-fields-spec : {M : Type 1} → statement M

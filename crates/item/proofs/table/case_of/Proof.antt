@@ -9,7 +9,7 @@ use lib.Dec.{eqb}
 use lib.Seq.{drop-cons}
 use borrow.Author.Tests.{eq-eqb, ne-eqb}
 use Rattle.item.specs.declared.table.Case.the-variants.{Entry}
-use Rattle.item.specs.Answer.{good}
+use Rattle.item.specs.Checked.{good}
 use Rattle.item.specs.Table.{Row, row, types, find}
 use Rattle.item.proofs.table.case_of.Statement.{statement}
 use Rattle.item.proofs.table.case_of.Tie as tie

@@ -9,7 +9,7 @@ use borrow.Author.Tests.{lt-ltb, le-ltb}
 use Rattle.item.specs.declared.table.Case.{Case}
 use Rattle.item.specs.declared.writer.Numbers.{Numbers}
 use Rattle.item.specs.declared.writer.Fill.the-variants.{Takes, Not}
-use Rattle.item.specs.Answer.{Answer, good, bad}
+use Rattle.item.specs.Checked.{Checked, good, bad}
 use Rattle.item.specs.Layout.{be}
 use Rattle.item.specs.Write.{join, write}
 use Rattle.item.specs.Table.{namesOf, types, find}
@@ -21,11 +21,11 @@ use Rattle.item.proofs.Putting.{put-then}
 use Rattle.item.proofs.writer.write.Statement.{statement}
 use Rattle.item.proofs.writer.write.Tie as tie
 
-ended : (a : Answer (List ℕ)) (m : ℕ) → ends 2 a ≡ Takes m → Good a × (m ≡ 2 + length (written a)) × (a ≡ good (written a))
+ended : (a : Checked (List ℕ)) (m : ℕ) → ends 2 a ≡ Takes m → Good a × (m ≡ 2 + length (written a)) × (a ≡ good (written a))
 ended (good b) m e = let z : 2 + length b ≡ m = cc in (tt, omega arith, refl)
 ended (bad x y) m e = not-takes x y m e
 
-stopped : (a : Answer (List ℕ)) (x y k : ℕ) (out : List ℕ) → ends 2 a ≡ Not x y → outcome out (join (be 2 k) a) ≡ unwritten x y out
+stopped : (a : Checked (List ℕ)) (x y k : ℕ) (out : List ℕ) → ends 2 a ≡ Not x y → outcome out (join (be 2 k) a) ≡ unwritten x y out
 stopped (good b) x y k out e = takes-not x y (2 + length b) e
 stopped (bad p q) x y k out e = let z : p ≡ x = cc in let w : q ≡ y = cc in rw (z, w)
 
@@ -49,7 +49,7 @@ module _ (k : ℕ) (n : Numbers) (t : Vectors) (out : List ℕ) where
 
       fits : writeItem k n t out ≡ outcome out (good (be 2 k ++ b))
       unfolding b
-      fits = whole ∙ ap (λ (a : Answer (List ℕ)). outcome out (join (be 2 k) a)) (ended (write (filled n t (namesOf c)) 2) m e .2)
+      fits = whole ∙ ap (λ (a : Checked (List ℕ)). outcome out (join (be 2 k) a)) (ended (write (filled n t (namesOf c)) 2) m e .2)
 
       size : length (be 2 k ++ b) ≡ m
       unfolding b
