@@ -9,22 +9,26 @@ use lib.Seq.{take-at}
 use borrow.Author.Tests.{le-ltb}
 use contract.Lifetimes.{Lfts}
 use denote.Ref.{RefT}
-use Rattle.item.specs.declared.layout.Part.{Part}
+use Rattle.fields.specs.declared.layout.Part.{Part}
 use Rattle.item.specs.declared.reader.Item.{Item}
 use Rattle.item.specs.declared.reader.Item.the-variants.{Entry, Receipt, SignedHead, Consistency, Inclusion, Page, Refused}
 use Rattle.item.specs.declared.writer.Numbers.{Numbers}
-use Rattle.item.specs.declared.writer.Written.{Written}
-use Rattle.item.specs.declared.writer.Written.the-variants.{Length, Refused as refusedAt}
-use Rattle.item.specs.Checked.{Checked, good, bad}
-use Rattle.item.specs.Layout.{Bytes}
-use Rattle.item.specs.Item.{readItem, Vectors, vectors, writing, Outcome, wrote, writeItem}
-use Rattle.item.specs.Path.{pathAt, copyPath}
+use Rattle.fields.specs.declared.writing.Written.{Written}
+use Rattle.fields.specs.declared.writing.Written.the-variants.{Length, Refused as refusedAt}
+use Rattle.fields.specs.Checked.{Checked, good, bad}
+use Rattle.octets.specs.Bytes.{Bytes}
+use Rattle.item.specs.declared.table.Met.{Met}
+use Rattle.item.specs.Item.{readItem, Meets, metBy, Vectors, vectors, writeItem}
+use Rattle.fields.specs.Effect.{writing, Effect, wrote}
+use Rattle.fields.specs.Path.{pathAt, copyPath}
 use Rattle.item.specs.Claims.{Sized, Taken, Copied, TakenThenWritten, WrittenThenTaken}
-use Rattle.item.proofs.Answers.{bad-good, same-good}
-use Rattle.item.proofs.Lent.{was-put}
+use Rattle.fields.proofs.Answers.{bad-good, same-good}
+use Rattle.fields.proofs.Lent.{was-put}
+use Rattle.item.proofs.Items as Items
+use Rattle.item.proofs.Naming.{reads-meets}
 use Rattle.item.proofs.Trips.{taken-then-written, written-then-taken}
 use Rattle.item.proofs.reader.read.Reads as read-reads
-use Rattle.item.proofs.path.path_into.Reads as path-reads
+use Rattle.fields.proofs.path.path_into.Reads as path-reads
 use Rattle.item.proofs.writer.write.Reads as write-reads
 
 -- what each function may answer, by its contract: the reader; the copy of a path, with the lent bytes before and after; the writer, likewise
@@ -80,7 +84,17 @@ taken-by P Q s (SignedHead k′ a b c d e g) k n t f h = h
 taken-by P Q s (Consistency k′ a b c p) k n t f (x, y, z, u, h) = (x, y, z, u, f p (t .path) h)
 taken-by P Q s (Inclusion k′ a b c p) k n t f (x, y, z, u, h) = (x, y, z, u, f p (t .path) h)
 taken-by P Q s (Page k′ a b c d) k n t f h = h
-taken-by P Q s (Refused x y) k n t f h = h
+taken-by P Q s (Refused x y m) k n t f h = h
+
+-- what was taken of an answer is of an item that was read
+taken-meets : (P : Part → List ℕ → Type 0) (s : List ℕ) (i : Item) (k : ℕ) (n : Numbers) (t : Vectors) (m : Met) → Taken P s i k n t → Meets i m
+taken-meets P s (Entry k′ a b c d) k n t m h = tt
+taken-meets P s (Receipt k′ a b c d) k n t m h = tt
+taken-meets P s (SignedHead k′ a b c d e g) k n t m h = tt
+taken-meets P s (Consistency k′ a b c p) k n t m h = tt
+taken-meets P s (Inclusion k′ a b c p) k n t m h = tt
+taken-meets P s (Page k′ a b c d) k n t m h = tt
+taken-meets P s (Refused x y z) k n t m h = absurd h
 
 written-length : (a : Written) (m : ℕ) → writing a ≡ good m → a ≡ Length m
 written-length (Length n) m e = ap Length (same-good n m e)
@@ -97,7 +111,7 @@ through-copied s p w h =
 wrote-comes : (s : RefT (List ℕ)) (p : Part) (w : List ℕ) → ((out : List ℕ) → length w ≤ length out → copyPath (s .now) p out ≡ wrote w out) → Comes s p w
 wrote-comes s p w e out after a c fit =
     let q = e (out .now) fit in
-    (written-length a (length w) (c .learnt .0 ∙ ap (λ (o : Outcome). o .answer) q), c .learnt .1 ∙ ap (λ (o : Outcome). o .bytes) q)
+    (written-length a (length w) (c .learnt .0 ∙ ap (λ (o : Effect). o .answer) q), c .learnt .1 ∙ ap (λ (o : Effect). o .bytes) q)
 
 copied-comes : (s : RefT (List ℕ)) (p : Part) (w : List ℕ) → Copied (s .now) p w → Comes s p w
 unfolding copyPath
@@ -108,8 +122,8 @@ pub read-then-written :
     (s out after : RefT (List ℕ)) (i : Item) (k : ℕ) (n : Numbers) (v : Slices) (a : Written) → Bytes (s .now) → Reads s i → Taken (Through s) (s .now) i k n (held v)
     → length (s .now) ≤ length (out .now) → Writes k n v out after a → (a ≡ Length (length (s .now))) × (after .now ≡ s .now ++ drop (length (s .now)) (out .now))
 read-then-written s out after i k n v a bs r h fit w =
-    let q = taken-then-written (s .now) (out .now) i k n (held v) bs (r .learnt) (taken-by (Through s) (Copied (s .now)) (s .now) i k n (held v) (through-copied s) h) fit in
-    (written-length a (length (s .now)) (w .learnt .0 ∙ ap (λ (o : Outcome). o .answer) q), w .learnt .1 ∙ ap (λ (o : Outcome). o .bytes) q)
+    let q = taken-then-written (s .now) (out .now) i k n (held v) bs (r .learnt .0) (taken-by (Through s) (Copied (s .now)) (s .now) i k n (held v) (through-copied s) h) fit in
+    (written-length a (length (s .now)) (w .learnt .0 ∙ ap (λ (o : Effect). o .answer) q), w .learnt .1 ∙ ap (λ (o : Effect). o .bytes) q)
 
 -- what was written, read again, answers the same fields
 pub written-then-read :
@@ -118,7 +132,7 @@ pub written-then-read :
 written-then-read k n v out after m s i z w e r =
     let b = writeItem k n (held v) (out .now) .bytes in
     let f : s .now ≡ take m b = e ∙ ap (take m) (w .learnt .1) in
-    let q = written-then-taken k n (held v) (out .now) m i z (sym (w .learnt .0)) (r .learnt ∙ ap readItem f) in
+    let q = written-then-taken k n (held v) (out .now) m i z (sym (w .learnt .0)) (r .learnt .0 ∙ ap readItem f) in
     taken-by (Copied (s .now)) (Comes s) (s .now) i k n (held v) (copied-comes s) (subst (λ (x : List ℕ). Taken (Copied x) x i k n (held v)) (sym f) q)
 
 -- The claims follow from these: any bytes can stand behind a reference, and what a definition says is one of the answers that the contracts allow.
@@ -156,8 +170,8 @@ copied-through s p w e =
       out = ref w;
       after = ref (copyPath s p w .bytes);
       count = length w;
-      copies = record { lives = ([], ([], tt)); learnt = (sym (ap (λ (o : Outcome). o .answer) q), refl) };
-      is = sym (ap (λ (o : Outcome). take (length w) (o .bytes)) q ∙ take-at w (drop (length w) w) (length w) refl);
+      copies = record { lives = ([], ([], tt)); learnt = (sym (ap (λ (o : Effect). o .answer) q), refl) };
+      is = sym (ap (λ (o : Effect). take (length w) (o .bytes)) q ∙ take-at w (drop (length w) w) (length w) refl);
     }
 
 comes-copied : (s : List ℕ) (p : Part) (w : List ℕ) → Comes (ref s) p w → Copied s p w
@@ -173,7 +187,7 @@ pub written-claimed : TakenThenWritten
 unfolding ref slices
 written-claimed s out i k n t bs e h fit =
     let o = writeItem k n t out in
-    let r = read-then-written (ref s) (ref out) (ref (o .bytes)) i k n (slices t) (told (o .answer)) bs (record { lives = ([], tt); learnt = e }) (taken-by (Copied s) (Through (ref s)) s i k n t (copied-through s) h) fit (record { lives = ([], ([], tt)); learnt = (told-is (o .answer), refl) }) in
+    let r = read-then-written (ref s) (ref out) (ref (o .bytes)) i k n (slices t) (told (o .answer)) bs (record { lives = ([], tt); learnt = (e, taken-meets (Copied s) s i k n t (metBy s) h) }) (taken-by (Copied s) (Through (ref s)) s i k n t (copied-through s) h) fit (record { lives = ([], ([], tt)); learnt = (told-is (o .answer), refl) }) in
     ap₂ (λ (x : Checked ℕ) (y : List ℕ). record { answer = x; bytes = y }) (sym (told-is (o .answer)) ∙ ap writing (r .0)) (r .1)
 
 pub taken-claimed : WrittenThenTaken
@@ -181,5 +195,6 @@ unfolding ref slices
 taken-claimed k n t out m i z e d =
     let o = writeItem k n t out in
     let s = take m (o .bytes) in
-    let r = written-then-read k n (slices t) (ref out) (ref (o .bytes)) m (ref s) i z (record { lives = ([], ([], tt)); learnt = (sym e, refl) }) refl (record { lives = ([], tt); learnt = d }) in
+    let b = Items.written-then-read k n t out m z e in
+    let r = written-then-read k n (slices t) (ref out) (ref (o .bytes)) m (ref s) i z (record { lives = ([], ([], tt)); learnt = (sym e, refl) }) refl (record { lives = ([], tt); learnt = (d, reads-meets i (b .reading) (metBy s) (d ∙ b .reads)) }) in
     taken-by (Comes (ref s)) (Copied s) s i k n t (comes-copied s) r

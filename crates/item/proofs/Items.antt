@@ -8,34 +8,39 @@ use lib.ListN.{length, getD, take, drop, length-append, take-append-drop}
 use lib.Dec.{ltb, eqb}
 use lib.Seq.{take-at, length-take-le, take-all}
 use borrow.Author.Tests.{le-ltb, ltb-false}
-use Rattle.item.specs.declared.layout.Part.{Part}
-use Rattle.item.specs.declared.layout.Field.{Field}
-use Rattle.item.specs.declared.layout.FieldRead.{FieldRead}
-use Rattle.item.specs.declared.layout.FieldRead.the-variants.{Found, Bad}
+use Rattle.fields.specs.declared.layout.Part.{Part}
+use Rattle.fields.specs.declared.layout.Field.{Field}
+use Rattle.fields.specs.declared.layout.FieldRead.{FieldRead}
+use Rattle.fields.specs.declared.layout.FieldRead.the-variants.{Found, Bad}
 use Rattle.item.specs.declared.table.Name.{Name}
 use Rattle.item.specs.declared.table.Name.the-variants.{Timestamp, Size, SizeOne, SizeTwo, Place, Agreement, PageNumber, LogId, IssuerKeyHash, Certificate, RootHash, Extensions, Signature, Path, Body}
 use Rattle.item.specs.declared.table.Case.{Case}
 use Rattle.item.specs.declared.table.Case.the-variants.{Entry, Receipt, SignedHead, Consistency, Inclusion, Page}
 use Rattle.item.specs.declared.writer.Numbers.{Numbers}
-use Rattle.item.specs.Checked.{Checked, good, bad, then}
-use Rattle.item.specs.Layout.{unbe, be, field, next, push, read, cut}
-use Rattle.item.specs.Write.{fill, Filled, join, write, values, opened, unwrap, stripped}
-use Rattle.item.specs.Table.{limit, Row, fieldOf, namesOf, layoutOf, types, find}
-use Rattle.item.specs.Item.{Reading, item, readItem, Vectors, vectors, valueOf, filled, Outcome, unwritten, wrote, outcome, writeItem}
+use Rattle.fields.specs.Checked.{Checked, good, bad, then}
+use Rattle.octets.specs.Numbers.{unbe, be}
+use Rattle.fields.specs.Layout.{field, next, push, read, bytesAt}
+use Rattle.fields.specs.Write.{fill, Filled, join, write, values, opened, unwrap, stripped}
+use Rattle.octets.specs.Limits.{mostItem}
+use Rattle.item.specs.Table.{TypeRow, fieldOf, namesOf, layoutOf, types, find}
+use Rattle.item.specs.Item.{Reading, item, readItem, Vectors, vectors, valueOf, filled, writeItem}
+use Rattle.fields.specs.Effect.{Effect, unwritten, wrote, effect}
 use Rattle.item.specs.Claims.{ReadThenWritten, Gives, ReadGives, Sized, ReadsBack, WrittenThenRead, RefusedWithin, FieldsWithin, WriterKeeps}
-use Rattle.item.proofs.Answers.{bad-good, good-bad, same-good, same-place}
-use Rattle.item.proofs.Lent.{refused-keeps, past-keeps}
-use Rattle.item.proofs.Digits.{be-length, unbe-be, be-unbe}
-use Rattle.item.proofs.Fills.{most, fill-short}
-use Rattle.item.proofs.Vectors.{bytes-take, Typed}
-use Rattle.item.proofs.Rounds.{write-again, AllTyped, no-fields, one-field, layout, read-back}
-use Rattle.item.proofs.Reading.{none, firsts, take-firsts}
+use Rattle.fields.proofs.Answers.{bad-good, good-bad, same-good, same-place}
+use Rattle.fields.proofs.Lent.{refused-keeps, past-keeps}
+use Rattle.octets.proofs.Numbers.{be-length, unbe-be, be-unbe}
+use Rattle.fields.proofs.Fills.{most, fill-short}
+use Rattle.fields.proofs.Vectors.{bytes-take}
+use Rattle.fields.specs.Claims.{Typed, AllTyped, no-fields, one-field, layout}
+use Rattle.fields.proofs.Rounds.{write-again, read-back}
+use Rattle.fields.specs.Answers.{noPart}
+use Rattle.fields.proofs.Resuming.{firsts, take-firsts}
 use Rattle.item.proofs.Rows.{layout-length}
-use Rattle.item.proofs.Within.{parts-within, place-within}
+use Rattle.fields.proofs.Within.{parts-within, place-within, read-count}
 
 -- an item that was read
 pub record WasRead (s : List ℕ) (r : Reading) : Type 0 where
-  pub short : length s ≤ limit
+  pub short : length s ≤ mostItem
   pub typed : 2 ≤ length s
   pub kind : r .kind ≡ unbe (take 2 s)
   pub case : find types (unbe (take 2 s)) ≡ good (r .case)
@@ -43,22 +48,22 @@ pub record WasRead (s : List ℕ) (r : Reading) : Type 0 where
 
 pub was-read : (s : List ℕ) (r : Reading) → readItem s ≡ good r → WasRead s r
 unfolding readItem
-was-read s r e = go (ltb limit (length s)) (ltb (length s) 2) (find types k) refl refl refl e
+was-read s r e = go (ltb mostItem (length s)) (ltb (length s) 2) (find types k) refl refl refl e
   where
     k : ℕ
     k = unbe (take 2 s)
 
-    inner : (c : Case) (a : Checked (List Part)) → find types k ≡ good c → read (layoutOf c) s 2 ≡ a → then a (item c k) ≡ good r → length s ≤ limit → 2 ≤ length s → WasRead s r
+    inner : (c : Case) (a : Checked (List Part)) → find types k ≡ good c → read (layoutOf c) s 2 ≡ a → then a (item c k) ≡ good r → length s ≤ mostItem → 2 ≤ length s → WasRead s r
     inner c (bad x y) hc ha e l t = bad-good x y r e
     inner c (good ps) hc ha e l t =
         subst (WasRead s) (same-good (record { case = c; kind = k; fields = ps }) r e)
         (record { short = l; typed = t; kind = refl; case = hc; fields = ha })
 
-    go : (a b : Bool) (c : Checked Case) → ltb limit (length s) ≡ a → ltb (length s) 2 ≡ b → find types k ≡ c → cond a (bad 1 0) (cond b (bad 2 0) (then c (λ d. then (read (layoutOf d) s 2) (item d k)))) ≡ good r → WasRead s r
+    go : (a b : Bool) (c : Checked Case) → ltb mostItem (length s) ≡ a → ltb (length s) 2 ≡ b → find types k ≡ c → cond a (bad 1 0) (cond b (bad 2 0) (then c (λ d. then (read (layoutOf d) s 2) (item d k)))) ≡ good r → WasRead s r
     go true b c ha hb hc e = bad-good 1 0 r e
     go false true c ha hb hc e = bad-good 2 0 r e
     go false false (bad x y) ha hb hc e = bad-good x y r e
-    go false false (good d) ha hb hc e = inner d (read (layoutOf d) s 2) hc refl e (ltb-false limit (length s) ha) (ltb-false (length s) 2 hb)
+    go false false (good d) ha hb hc e = inner d (read (layoutOf d) s 2) hc refl e (ltb-false mostItem (length s) ha) (ltb-false (length s) 2 hb)
 
 pub two-bytes : (s : List ℕ) (r : Reading) → readItem s ≡ good r → 2 ≤ length s
 two-bytes s r e = was-read s r e .typed
@@ -66,7 +71,7 @@ two-bytes s r e = was-read s r e .typed
 pub fields-within : FieldsWithin
 fields-within s r e = let h = was-read s r e in parts-within s (layoutOf (r .case)) 2 (r .fields) (h .typed) (h .fields)
 
-find-place : (rs : List Row) (k x at : ℕ) → find rs k ≡ bad x at → at ≡ 0
+pub find-place : (rs : List TypeRow) (k x at : ℕ) → find rs k ≡ bad x at → at ≡ 0
 unfolding find
 find-place [] k x at e = same-place 4 x 0 at e
 find-place (r ∷ rs) k x at e = go (eqb k (r .kind)) e (find-place rs k x at)
@@ -77,7 +82,7 @@ find-place (r ∷ rs) k x at e = go (eqb k (r .kind)) e (find-place rs k x at)
 
 pub refused-within : RefusedWithin
 unfolding readItem
-refused-within s x at e = go (ltb limit (length s)) (ltb (length s) 2) (find types k) refl refl e
+refused-within s x at e = go (ltb mostItem (length s)) (ltb (length s) 2) (find types k) refl refl e
   where
     k : ℕ
     k = unbe (take 2 s)
@@ -174,15 +179,15 @@ was-written : (k : ℕ) (n : Numbers) (t : Vectors) (out : List ℕ) (m : ℕ) �
 unfolding writeItem
 was-written k n t out m e = go (find types k) refl e
   where
-    go : (c : Checked Case) → find types k ≡ c → outcome out (then c (λ d. join (be 2 k) (write (filled n t (namesOf d)) 2))) .answer ≡ good m → WasWritten k n t out m
+    go : (c : Checked Case) → find types k ≡ c → effect out (then c (λ d. join (be 2 k) (write (filled n t (namesOf d)) 2))) .answer ≡ good m → WasWritten k n t out m
     go (bad x y) hc e = bad-good x y m e
     go (good c) hc e = deep (write (filled n t (namesOf c)) 2) refl e
       where
-        deep : (a : Checked (List ℕ)) → write (filled n t (namesOf c)) 2 ≡ a → outcome out (join (be 2 k) a) .answer ≡ good m → WasWritten k n t out m
+        deep : (a : Checked (List ℕ)) → write (filled n t (namesOf c)) 2 ≡ a → effect out (join (be 2 k) a) .answer ≡ good m → WasWritten k n t out m
         deep (bad x y) ha e = bad-good x y m e
         deep (good b) ha e = last (ltb (length out) (length (be 2 k ++ b))) refl e
           where
-            last : (q : Bool) → ltb (length out) (length (be 2 k ++ b)) ≡ q → _≡_ {A = Checked ℕ} (cond {A = Outcome} q (unwritten 9 0 out) (wrote (be 2 k ++ b) out) .answer) (good m) → WasWritten k n t out m
+            last : (q : Bool) → ltb (length out) (length (be 2 k ++ b)) ≡ q → _≡_ {A = Checked ℕ} (cond {A = Effect} q (unwritten 9 0 out) (wrote (be 2 k ++ b) out) .answer) (good m) → WasWritten k n t out m
             last true hq e = bad-good 9 0 m e
             last false hq e =
                 let z = same-good (length (be 2 k ++ b)) m e in
@@ -199,7 +204,7 @@ written-then-read k n t out m z e =
     let s : take m (writeItem k n t out .bytes) ≡ be 2 k ++ b = ap (take m) (h .bytes) ∙ take-at (be 2 k ++ b) (drop m out) m (h .size) in
     let y : layout (filled n t (namesOf c)) ≡ layoutOf c = layout-filled n t (namesOf c) in
     let q = read-back (filled n t (namesOf c)) (be 2 k) b (all-typed k n t z (namesOf c)) (rw l (h .fields)) in
-    let short : length (be 2 k ++ b) ≤ limit = omega (arith, length-append (be 2 k) b, write-short (filled n t (namesOf c)) 2 b (h .fields), ap total y, total-short c) in
+    let short : length (be 2 k ++ b) ≤ mostItem = omega (arith, length-append (be 2 k) b, write-short (filled n t (namesOf c)) 2 b (h .fields), ap total y, total-short c) in
     let two : 2 ≤ length (be 2 k ++ b) = omega (arith, length-append (be 2 k) b) in
     let u : unbe (take 2 (be 2 k ++ b)) ≡ k = ap unbe (take-at (be 2 k) b 2 l) ∙ unbe-be 2 k (z .kind) in
     let rd : read (layoutOf c) (be 2 k ++ b) 2 ≡ good (q .parts) = rw (y, l) at (q .read) in
@@ -217,24 +222,6 @@ unfolding writeItem
 writer-keeps k n t out =
     let a = then (find types k) (λ d. join (be 2 k) (write (filled n t (namesOf d)) 2)) in (refused-keeps a out, past-keeps a out)
 
--- as many parts as fields
-read-count : (fs : List Field) (s : List ℕ) (at : ℕ) (ps : List Part) → read fs s at ≡ good ps → length ps ≡ length fs
-unfolding read
-read-count [] s at ps e = go (ltb at (length s)) e
-  where
-    go : (b : Bool) → cond b (bad 3 at) (good []) ≡ good ps → length ps ≡ 0
-    go true e = bad-good 3 at ps e
-    go false e = sym (ap length (same-good [] ps e))
-read-count (f ∷ fs) s at ps e = go (field f (drop at s) at) e (λ p. read-count fs s (p .start + p .len))
-  where
-    go : (x : FieldRead) → next x (λ p. push p (read fs s (p .start + p .len))) ≡ good ps → ((p : Part) (qs : List Part) → read fs s (p .start + p .len) ≡ good qs → length qs ≡ length fs) → length ps ≡ suc (length fs)
-    go (Bad x y) e less = bad-good x y ps e
-    go (Found p) e less = more (read fs s (p .start + p .len)) refl e
-      where
-        more : (a : Checked (List Part)) → read fs s (p .start + p .len) ≡ a → push p a ≡ good ps → length ps ≡ suc (length fs)
-        more (bad x y) ha e = bad-good x y ps e
-        more (good qs) ha e = sym (ap length (same-good (p ∷ qs) ps e)) ∙ ap suc (less p qs ha)
-
 abbrev numbers : ℕ → ℕ → ℕ → ℕ → ℕ → ℕ → ℕ → Numbers
 numbers t z a b p g n =
     record { timestamp = t; size = z; «size_one» = a; «size_two» = b; place = p; agreement = g; page = n }
@@ -242,10 +229,10 @@ numbers t z a b p g n =
 -- the values of an item that was read, by their names
 module _ (s : List ℕ) (k : ℕ) (ps : List Part) where
   abbrev n : ℕ → ℕ
-  n i = getD ps i none .value
+  n i = getD ps i noPart .value
 
   abbrev v : ℕ → List ℕ
-  v i = cut s (getD ps i none)
+  v i = bytesAt s (getD ps i noPart)
 
   abbrev path : ℕ → List ℕ
   path i = stripped (length (v i) / 33) (v i)

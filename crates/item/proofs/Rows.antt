@@ -1,38 +1,61 @@
--- The table's fields: each fits the code's numbers, and stands in a layout where its name stands. Assumes nothing.
+-- The table's fields: each is short enough for sums of places, and stands in a layout where its name stands. Assumes nothing.
 use mathlib.Core.Path.{_≡_, refl, ap, sym, _∙_}
 use mathlib.Core.List.{List, [], _∷_, map}
-use Prim.Native.Nat.{ℕ, zero, suc, _<_}
+use Prim.Native.Nat.{ℕ, zero, suc, _≤_, _<_}
 use native.Mathlib.Omega.{arith}
 use lib.ListN.{length, getD, take}
 use lib.Seq.{getD-take}
-use Rattle.item.specs.declared.layout.Field.{Field}
-use Rattle.item.specs.declared.layout.Field.the-variants.{Uint}
+use Rattle.fields.specs.declared.layout.Field.{Field}
+use Rattle.octets.specs.declared.number.Width.{Width}
+use Rattle.octets.specs.declared.number.Width.the-variants.{One, Two, Three, Four, Five, Six, Seven, Eight}
+use Rattle.octets.specs.Numbers.{widthOf}
+use Rattle.fields.proofs.Fills.{most}
+use Rattle.fields.specs.declared.layout.Field.the-variants.{Uint, Vector}
 use Rattle.item.specs.declared.table.Name.{Name}
 use Rattle.item.specs.declared.table.Name.the-variants.{Timestamp, Size, SizeOne, SizeTwo, Place, Agreement, PageNumber, LogId, IssuerKeyHash, Certificate, RootHash, Extensions, Signature, Path, Body}
 use Rattle.item.specs.declared.table.Case.{Case}
+use Rattle.item.specs.declared.table.Case.the-variants.{Entry, Receipt, SignedHead, Consistency, Inclusion, Page}
 use Rattle.item.specs.Table.{fieldOf, namesOf, layoutOf}
 use Rattle.item.specs.declared.writer.Numbers.{Numbers}
-use Rattle.item.specs.Write.{Value}
+use Rattle.fields.specs.Write.{Value, held}
 use Rattle.item.specs.Item.{Vectors, valueOf, filled}
-use Rattle.item.specs.Steps.{Narrow, held, numberOf, bytesOf}
-use Rattle.item.proofs.Writing.{nothing}
+use Rattle.item.specs.Steps.{Narrow, numberOf, bytesOf}
+use Rattle.fields.proofs.Filling.{nothing}
 
-pub narrow : (n : Name) → Narrow (fieldOf n)
-narrow Timestamp = omega arith
-narrow Size = omega arith
-narrow SizeOne = omega arith
-narrow SizeTwo = omega arith
-narrow Place = omega arith
-narrow Agreement = omega arith
-narrow PageNumber = omega arith
-narrow LogId = (omega arith, omega arith, omega arith)
-narrow IssuerKeyHash = (omega arith, omega arith, omega arith)
-narrow Certificate = (omega arith, omega arith, omega arith)
-narrow RootHash = (omega arith, omega arith, omega arith)
-narrow Extensions = (omega arith, omega arith, omega arith)
-narrow Signature = (omega arith, omega arith, omega arith)
-narrow Path = (omega arith, omega arith, omega arith)
-narrow Body = (omega arith, omega arith, omega arith)
+narrow : (n : Name) → Narrow (fieldOf n)
+narrow Timestamp = tt
+narrow Size = tt
+narrow SizeOne = tt
+narrow SizeTwo = tt
+narrow Place = tt
+narrow Agreement = tt
+narrow PageNumber = tt
+narrow LogId = omega arith
+narrow IssuerKeyHash = omega arith
+narrow Certificate = omega arith
+narrow RootHash = omega arith
+narrow Extensions = omega arith
+narrow Signature = omega arith
+narrow Path = omega arith
+narrow Body = omega arith
+
+-- what a field of the table takes
+pub most-small : (n : Name) → most (fieldOf n) ≤ 4294967303
+most-small n = go (fieldOf n) (narrow n)
+  where
+    wide : (w : Width) → widthOf w ≤ 8
+    wide One = omega arith
+    wide Two = omega arith
+    wide Three = omega arith
+    wide Four = omega arith
+    wide Five = omega arith
+    wide Six = omega arith
+    wide Seven = omega arith
+    wide Eight = omega arith
+
+    go : (f : Field) → Narrow f → most f ≤ 4294967303
+    go (Uint w) h = omega (arith, wide w)
+    go (Vector w least m i) h = omega (arith, wide w)
 
 pub layout-length : (c : Case) → length (layoutOf c) ≡ length (namesOf c)
 layout-length c = go (namesOf c)
@@ -41,7 +64,7 @@ layout-length c = go (namesOf c)
     go [] = refl
     go (n ∷ ns) = ap suc (go ns)
 
-field-at : (ns : List Name) (i : ℕ) → i < length ns → fieldOf (getD ns i Timestamp) ≡ getD (map fieldOf ns) i (Uint 0)
+field-at : (ns : List Name) (i : ℕ) → i < length ns → fieldOf (getD ns i Timestamp) ≡ getD (map fieldOf ns) i (Uint One)
 field-at [] i h = absurd (omega arith)
 field-at (n ∷ ns) zero h = refl
 field-at (n ∷ ns) (suc i) h = field-at ns i (omega arith)
@@ -50,7 +73,7 @@ field-at (n ∷ ns) (suc i) h = field-at ns i (omega arith)
 pub name-at : (c : Case) (names : List Name) (i : ℕ) → take (length (namesOf c)) names ≡ namesOf c → i < length (namesOf c) → getD names i Timestamp ≡ getD (namesOf c) i Timestamp
 name-at c names i e h = sym (getD-take (length (namesOf c)) names i Timestamp h) ∙ ap (λ (l : List Name). getD l i Timestamp) e
 
-pub layout-at : (c : Case) (names : List Name) (i : ℕ) → take (length (namesOf c)) names ≡ namesOf c → i < length (namesOf c) → fieldOf (getD names i Timestamp) ≡ getD (layoutOf c) i (Uint 0)
+pub layout-at : (c : Case) (names : List Name) (i : ℕ) → take (length (namesOf c)) names ≡ namesOf c → i < length (namesOf c) → fieldOf (getD names i Timestamp) ≡ getD (layoutOf c) i (Uint One)
 layout-at c names i e h = ap fieldOf (name-at c names i e h) ∙ field-at (namesOf c) i h
 
 -- what the writer is given by a name, from its two halves
@@ -88,3 +111,12 @@ one-at n t names k i l h f v ef ev =
     ∙ ap (λ (y : Name). record { field = fieldOf y; value = valueOf n t y }) (getD-take k names i Timestamp h)
     ∙ ap (λ (w : Value). record { field = fieldOf x; value = w }) (held-is n t x)
     ∙ rw (ef, ev)
+
+-- a line has at most six fields
+pub count-small : (c : Case) → length (namesOf c) ≤ 6
+count-small Entry = omega arith
+count-small Receipt = omega arith
+count-small SignedHead = omega arith
+count-small Consistency = omega arith
+count-small Inclusion = omega arith
+count-small Page = omega arith

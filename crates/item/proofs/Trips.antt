@@ -6,74 +6,74 @@ use native.Mathlib.Omega.{arith}
 use lib.ListN.{length, getD, take, drop, length-drop}
 use lib.Seq.{drop-drop}
 use borrow.Author.Tests.{le-ltb}
-use Rattle.item.specs.declared.layout.Part.{Part}
-use Rattle.item.specs.declared.layout.Inner.{Inner}
-use Rattle.item.specs.declared.layout.Inner.the-variants.{NodeList}
-use Rattle.item.specs.declared.layout.Inside.the-variants.{Fine}
-use Rattle.item.specs.declared.layout.Field.{Field}
-use Rattle.item.specs.declared.layout.Field.the-variants.{Uint, Vector}
-use Rattle.item.specs.declared.layout.FieldRead.the-variants.{Found}
+use Rattle.fields.specs.declared.layout.Part.{Part}
+use Rattle.fields.specs.declared.layout.Inner.{Inner}
+use Rattle.fields.specs.declared.layout.Inner.the-variants.{NodeList}
+use Rattle.fields.specs.declared.layout.Inside.the-variants.{Fine}
+use Rattle.fields.specs.declared.layout.Field.{Field}
+use Rattle.fields.specs.declared.layout.Field.the-variants.{Uint, Vector}
+use Rattle.fields.specs.declared.layout.FieldRead.the-variants.{Found}
 use Rattle.item.specs.declared.table.Case.{Case}
 use Rattle.item.specs.declared.table.Case.the-variants.{Entry, Receipt, SignedHead, Consistency, Inclusion, Page}
 use Rattle.item.specs.declared.reader.Item.{Item}
 use Rattle.item.specs.declared.reader.Item.the-variants.{Entry as entry, Receipt as receipt, SignedHead as signedHead, Consistency as consistency, Inclusion as inclusion, Page as page, Refused as refused}
 use Rattle.item.specs.declared.writer.Numbers.{Numbers}
-use Rattle.item.specs.Checked.{Checked, good, bad}
-use Rattle.item.specs.Layout.{unbe, inside, field, cut}
-use Rattle.item.specs.Write.{Filled, numberIn, bytesIn, unwrap, opened, values}
+use Rattle.fields.specs.Checked.{Checked, good, bad}
+use Rattle.octets.specs.declared.number.Width.{Width}
+use Rattle.octets.specs.Numbers.{widthOf, unbe}
+use Rattle.fields.specs.Layout.{inside, field, bytesAt}
+use Rattle.fields.specs.Write.{Filled, numberIn, bytesIn, unwrap, opened, values}
 use Rattle.item.specs.Table.{namesOf, layoutOf}
-use Rattle.item.specs.Item.{Reading, reading, readItem, Vectors, filled, wrote, writeItem}
-use Rattle.item.specs.Path.{pathAt, copyPath}
-use Rattle.item.specs.Newer.{none}
-use Rattle.item.specs.Claims.{Given, HasPath, pathPart, PathIsSaid, Taken, Copied, TakenThenWritten, WrittenThenTaken, CopyKeeps}
-use Rattle.item.proofs.Answers.{bad-good, good-bad, same-good}
-use Rattle.item.proofs.Lent.{refused-keeps, past-keeps}
-use Rattle.item.proofs.Founds.{found-vector}
-use Rattle.item.proofs.Within.{Both, parts-all}
-use Rattle.item.proofs.Writing.{nothing}
-use Rattle.item.proofs.Hashing.{was-copied, copied-is, copied-is-joined}
+use Rattle.item.specs.Item.{Reading, reading, readItem, Vectors, filled, writeItem}
+use Rattle.fields.specs.Effect.{wrote}
+use Rattle.fields.specs.Path.{pathAt, copyPath}
+use Rattle.fields.specs.Answers.{noPart}
+use Rattle.item.specs.Claims.{Given, HasPath, pathPart, PathIsSaid, Taken, Copied, TakenThenWritten, WrittenThenTaken}
+use Rattle.fields.specs.Claims.{CopyKeeps}
+use Rattle.fields.proofs.Answers.{bad-good, good-bad, same-good}
+use Rattle.fields.proofs.Lent.{refused-keeps, past-keeps}
+use Rattle.fields.proofs.Founds.{found-vector}
+use Rattle.fields.proofs.Within.{Both, parts-all}
+use Rattle.fields.proofs.Filling.{nothing}
+use Rattle.fields.proofs.Hashing.{was-copied, copied-is, copied-is-joined}
 use Rattle.item.proofs.Items.{was-read, read-then-written, written-then-read}
 
 -- a field that was found is whole: a vector's elements are fine
 abbrev Whole : List ℕ → Field → Part → Type 0
 Whole s (Uint w) p = Unit
-Whole s (Vector w least most i) p = (p .start + p .len ≤ length s) × (inside i (cut s p) (p .start) ≡ Fine)
+Whole s (Vector w least most i) p = (p .start + p .len ≤ length s) × (inside i (bytesAt s p) (p .start) ≡ Fine)
 
 found-whole : (s : List ℕ) (f : Field) (at : ℕ) (p : Part) → at ≤ length s → field f (drop at s) at ≡ Found p → Whole s f p
 found-whole s (Uint w) at p h e = tt
 found-whole s (Vector w least most i) at p h e =
-    let v = found-vector w least most i (drop at s) at p e in
-    let n = unbe (take w (drop at s)) in
-    let l : at + w + n ≤ length s = omega (arith, v .room, v .prefix, length-drop at s) in
-    let f : inside i (take n (drop (at + w) s)) (at + w) ≡ Fine = rw (drop-drop w at s) at (v .fine) in
+    let u = widthOf w in
+    let v = found-vector u least most i (drop at s) at p e in
+    let n = unbe (take u (drop at s)) in
+    let l : at + u + n ≤ length s = omega (arith, v .room, v .prefix, length-drop at s) in
+    let f : inside i (take n (drop (at + u) s)) (at + u) ≡ Fine = rw (drop-drop u at s) at (v .fine) in
     rw (v .is) (l, f)
 
 -- the path of an item that was read is copied
-path-copied : (s : List ℕ) (r : Reading) → readItem s ≡ good r → HasPath (r .case) → pathAt s (pathPart r) ≡ good (unwrap NodeList (cut s (pathPart r)))
+path-copied : (s : List ℕ) (r : Reading) → readItem s ≡ good r → HasPath (r .case) → pathAt s (pathPart r) ≡ good (unwrap NodeList (bytesAt s (pathPart r)))
 path-copied s r e h = let w = was-read s r e in go (r .case) (r .fields) h (parts-all s (Whole s) (found-whole s) (layoutOf (r .case)) 2 (r .fields) (w .typed) (w .fields))
   where
-    fourth : (f g k l : Field) (ps : List Part) → Both (Whole s) (f ∷ (g ∷ (k ∷ (l ∷ [])))) ps → Whole s l (getD ps 3 none)
+    fourth : (f g k l : Field) (ps : List Part) → Both (Whole s) (f ∷ (g ∷ (k ∷ (l ∷ [])))) ps → Whole s l (getD ps 3 noPart)
     fourth f g k l [] b = absurd b
     fourth f g k l (p ∷ []) b = absurd (b .1)
     fourth f g k l (p ∷ (q ∷ [])) b = absurd (b .1 .1)
     fourth f g k l (p ∷ (q ∷ (x ∷ []))) b = absurd (b .1 .1 .1)
     fourth f g k l (p ∷ (q ∷ (x ∷ (y ∷ ps)))) b = b .1 .1 .1 .0
 
-    go : (c : Case) (ps : List Part) → HasPath c → Both (Whole s) (layoutOf c) ps → pathAt s (getD ps 3 none) ≡ good (unwrap NodeList (cut s (getD ps 3 none)))
+    go : (c : Case) (ps : List Part) → HasPath c → Both (Whole s) (layoutOf c) ps → pathAt s (getD ps 3 noPart) ≡ good (unwrap NodeList (bytesAt s (getD ps 3 noPart)))
     go Entry ps h b = absurd h
     go Receipt ps h b = absurd h
     go SignedHead ps h b = absurd h
     go Page ps h b = absurd h
-    go Consistency ps h b = let d = fourth _ _ _ _ ps b in copied-is s (getD ps 3 none) (d .0) (d .1)
-    go Inclusion ps h b = let d = fourth _ _ _ _ ps b in copied-is s (getD ps 3 none) (d .0) (d .1)
-
--- a refused copy changes nothing
-pub copy-keeps : CopyKeeps
-unfolding copyPath
-copy-keeps s p out = (refused-keeps (pathAt s p) out, past-keeps (pathAt s p) out)
+    go Consistency ps h b = let d = fourth _ _ _ _ ps b in copied-is s (getD ps 3 noPart) (d .0) (d .1)
+    go Inclusion ps h b = let d = fourth _ _ _ _ ps b in copied-is s (getD ps 3 noPart) (d .0) (d .1)
 
 -- the value of a fourth field that is a vector
-fourth-value : (s : List ℕ) (f g k : Field) (w least most : ℕ) (i : Inner) (a : List Filled) (ps : List Part) → length a ≡ 4 → a ≡ values (f ∷ (g ∷ (k ∷ (Vector w least most i ∷ [])))) ps s → bytesIn (getD a 3 nothing .value) ≡ unwrap i (cut s (getD ps 3 none))
+fourth-value : (s : List ℕ) (f g k : Field) (w : Width) (least most : ℕ) (i : Inner) (a : List Filled) (ps : List Part) → length a ≡ 4 → a ≡ values (f ∷ (g ∷ (k ∷ (Vector w least most i ∷ [])))) ps s → bytesIn (getD a 3 nothing .value) ≡ unwrap i (bytesAt s (getD ps 3 noPart))
 unfolding values opened
 fourth-value s f g k w least most i a [] l e = absurd (omega (arith, ap length e))
 fourth-value s f g k w least most i a (p ∷ []) l e = absurd (omega (arith, ap length e))
@@ -81,10 +81,10 @@ fourth-value s f g k w least most i a (p ∷ (q ∷ [])) l e = absurd (omega (ar
 fourth-value s f g k w least most i a (p ∷ (q ∷ (x ∷ []))) l e = absurd (omega (arith, ap length e))
 fourth-value s f g k w least most i a (p ∷ (q ∷ (x ∷ (y ∷ ps)))) l e = ap (λ (b : List Filled). bytesIn (getD b 3 nothing .value)) e
 
-given-path : (s : List ℕ) (r : Reading) (k : ℕ) (n : Numbers) (t : Vectors) → HasPath (r .case) → Given s r k n t → t .path ≡ unwrap NodeList (cut s (pathPart r))
+given-path : (s : List ℕ) (r : Reading) (k : ℕ) (n : Numbers) (t : Vectors) → HasPath (r .case) → Given s r k n t → t .path ≡ unwrap NodeList (bytesAt s (pathPart r))
 given-path s r k n t h (is, e) = go (r .case) (r .fields) h e
   where
-    go : (c : Case) (ps : List Part) → HasPath c → filled n t (namesOf c) ≡ values (layoutOf c) ps s → t .path ≡ unwrap NodeList (cut s (getD ps 3 none))
+    go : (c : Case) (ps : List Part) → HasPath c → filled n t (namesOf c) ≡ values (layoutOf c) ps s → t .path ≡ unwrap NodeList (bytesAt s (getD ps 3 noPart))
     go Entry ps h e = absurd h
     go Receipt ps h e = absurd h
     go SignedHead ps h e = absurd h
@@ -99,9 +99,9 @@ path-is-said s r e h =
     let p = pathPart r in
     let c = path-copied s r e h in
     record {
-      path = unwrap NodeList (cut s p);
+      path = unwrap NodeList (bytesAt s p);
       copied = λ out l. rw (c, le-ltb _ _ l);
-      says = copied-is-joined s p (unwrap NodeList (cut s p)) c;
+      says = copied-is-joined s p (unwrap NodeList (bytesAt s p)) c;
       given = λ k n t g. given-path s r k n t h g;
     }
 
@@ -113,11 +113,11 @@ taken-given s i r k n t e h = go i e h
     is : (q : Reading) → good q ≡ good r → Given s q k n t → Given s r k n t
     is q e g = subst (λ (x : Reading). Given s x k n t) (same-good q r e) g
 
-    path : (p : Part) → Copied s p (t .path) → t .path ≡ unwrap NodeList (cut s p)
+    path : (p : Part) → Copied s p (t .path) → t .path ≡ unwrap NodeList (bytesAt s p)
     path p e = was-copied s p (t .path) e .is
 
     go : (i : Item) → reading i ≡ good r → Taken (Copied s) s i k n t → Given s r k n t
-    go (refused x y) e h = absurd h
+    go (refused x y m) e h = absurd h
     go (entry kind a b c d) e (hk, h₀, h₁, h₂, h₃) = is _ e (hk, rw (h₀, h₁, h₂, h₃))
     go (receipt kind a b c d) e (hk, h₀, h₁, h₂, h₃) = is _ e (hk, rw (h₀, h₁, h₂, h₃))
     go (signedHead kind a b c d f g) e (hk, h₀, h₁, h₂, h₃, h₄, h₅) = is _ e (hk, rw (h₀, h₁, h₂, h₃, h₄, h₅))
@@ -145,7 +145,7 @@ given-taken s i r k n t e d g = go i e
     vector j l = bytesIn (getD l j nothing .value)
 
     go : (i : Item) → reading i ≡ good r → Taken (Copied s) s i k n t
-    go (refused x y) e = bad-good x y r e
+    go (refused x y m) e = bad-good x y r e
     go (entry kind a b c d) e = let h = is _ e in (h .0, ap (number 0) (h .1), ap (vector 1) (h .1), ap (vector 2) (h .1), ap (vector 3) (h .1))
     go (receipt kind a b c d) e = let h = is _ e in (h .0, ap (vector 0) (h .1), ap (number 1) (h .1), ap (vector 2) (h .1), ap (vector 3) (h .1))
     go (signedHead kind a b c d f g) e = let h = is _ e in (h .0, ap (vector 0) (h .1), ap (number 1) (h .1), ap (number 2) (h .1), ap (vector 3) (h .1), ap (vector 4) (h .1), ap (vector 5) (h .1))
@@ -161,7 +161,7 @@ taken-then-written s out i k n t bs e h fit = go (reading i) refl e
     go (bad x y) ha e = absurd (refused-not i ha h)
       where
         refused-not : (i : Item) → reading i ≡ bad x y → Taken (Copied s) s i k n t → ⊥
-        refused-not (refused a b) e h = h
+        refused-not (refused a b m) e h = h
         refused-not (entry kind a b c d) e h = good-bad x y _ e
         refused-not (receipt kind a b c d) e h = good-bad x y _ e
         refused-not (signedHead kind a b c d f g) e h = good-bad x y _ e

@@ -4,7 +4,19 @@ use mathlib.Core.Path.{_≡_}
 use mathlib.Core.List.{List, [], _∷_}
 use lib.ListN.{length, getD, take, drop}
 use denote.Ref.{RefT}
-use Rattle.item.specs.declared.layout.Part.{Part}
+use Rattle.octets.specs.Bytes.{Bytes}
+use Rattle.fields.specs.declared.layout.Part.{Part}
+use Rattle.fields.specs.Checked.{good, bad}
+use Rattle.fields.specs.Layout.{found, bytesAt}
+use Rattle.fields.specs.Write.{values}
+use Rattle.fields.specs.Effect.{wrote}
+use Rattle.fields.specs.Path.{pathAt, copyPath}
+use Rattle.fields.specs.Claims.{Each, Joins}
+use Rattle.fields.specs.Answers.{noPart}
+use Rattle.octets.specs.Numbers.{unbe}
+use Rattle.item.specs.declared.table.Name.the-variants.{Timestamp}
+use Rattle.item.specs.declared.table.Met.{Met}
+use Rattle.item.specs.declared.table.Met.the-variants.{Whole, TypeBytes, Named, After}
 use Rattle.item.specs.declared.table.Case.{Case}
 use Rattle.item.specs.declared.table.Case.the-variants.{Entry, Receipt, SignedHead, Consistency, Inclusion, Page}
 use Rattle.item.specs.declared.reader.Item.{Item}
@@ -12,13 +24,9 @@ use Rattle.item.specs.declared.reader.Item.the-variants.{Entry as entry,
 use Rattle.item.specs.declared.reader.Item.the-variants.{Inclusion as inclusion, Page as page, Refused as refused}
 use Rattle.item.specs.declared.heads.Choice.the-variants.{Neither}
 use Rattle.item.specs.declared.writer.Numbers.{Numbers}
-use Rattle.item.specs.Checked.{good, bad}
-use Rattle.item.specs.Layout.{Bytes, cut}
-use Rattle.item.specs.Write.{values}
-use Rattle.item.specs.Table.{namesOf, layoutOf}
-use Rattle.item.specs.Item.{Reading, reading, readItem, Vectors, filled, wrote, writeItem}
-use Rattle.item.specs.Path.{encoded, joined, pathAt, copyPath}
-use Rattle.item.specs.Newer.{none, which, handed}
+use Rattle.item.specs.Table.{namesOf, layoutOf, types, find}
+use Rattle.item.specs.Item.{Reading, reading, readItem, metBy, Vectors, filled, writeItem}
+use Rattle.item.specs.Newer.{which, Returns}
 
 -- the writer is given what was read in s: the type, and by each name that the type has, the value that was read there
 abbrev pub Given : List ℕ → Reading → ℕ → Numbers → Vectors → Type 0
@@ -66,12 +74,20 @@ abbrev pub RefusedWithin : Type 0
 RefusedWithin = (s : List ℕ) (x at : ℕ) → readItem s ≡ bad x at → at ≤ length s
 
 -- every field lies within the input
-abbrev pub Each : {A : Type 0} → (A → Type 0) → List A → Type 0
-Each P [] = Unit
-Each P (x ∷ xs) = P x × Each P xs
-
 abbrev pub FieldsWithin : Type 0
 FieldsWithin = (s : List ℕ) (r : Reading) → readItem s ≡ good r → Each (λ p. p .start + p .len ≤ length s) (r .fields)
+
+-- what a refusal met, with its number and place: the whole item with 1; the two bytes of the type; the field of its line behind those found, all of which
+-- end at or before the place; what comes after the last field with 3
+pub data Meeting (s : List ℕ) (x at : ℕ) : Met → Type 0 where
+  whole : x ≡ 1 → at ≡ 0 → Meeting s x at Whole
+  typeBytes : at ≡ 0 → Meeting s x at TypeBytes
+  named : (c : Case) → find types (unbe (take 2 s)) ≡ good c → length (found (layoutOf c) s 2) < length (namesOf c)
+      → Each (λ p. p .start + p .len ≤ at) (found (layoutOf c) s 2) → Meeting s x at (Named (getD (namesOf c) (length (found (layoutOf c) s 2)) Timestamp))
+  after : x ≡ 3 → Meeting s x at After
+
+abbrev pub NamesItsField : Type 0
+NamesItsField = (s : List ℕ) (x at : ℕ) → readItem s ≡ bad x at → Meeting s x at (metBy s)
 
 -- a refusal of the writer changes no byte; otherwise the bytes past those written stay
 abbrev pub WriterKeeps : Type 0
@@ -82,33 +98,7 @@ WriterKeeps =
 
 -- the empty part comes back only where neither is chosen
 abbrev pub EmptyIsNeither : Type 0
-EmptyIsNeither = (a b r : RefT (List ℕ)) → handed (which (a .now) (b .now)) a b r → r .now ≡ [] → which (a .now) (b .now) ≡ Neither
-
--- what is copied of a part is what stands there: hashes of 32 bytes, each with its length, and the same hashes joined
-pub record Joins (s : List ℕ) (p : Part) (w : List ℕ) : Type 0 where
-  pub within : p .start + p .len ≤ length s
-  pub hashes : List (List ℕ)
-  pub ours : Each (λ h. length h ≡ 32) hashes
-  pub item : cut s p ≡ encoded hashes
-  pub path : w ≡ joined hashes
-  pub size : length w ≡ 32 * length hashes
-  pub each : (i : ℕ) → i < length hashes → take 32 (drop (32 * i) w) ≡ getD hashes i []
-
-abbrev pub CopiedIsJoined : Type 0
-CopiedIsJoined = (s : List ℕ) (p : Part) (w : List ℕ) → pathAt s p ≡ good w → Joins s p w
-
--- and whatever part holds such hashes is copied
-abbrev pub JoinedIsCopied : Type 0
-JoinedIsCopied =
-    (s : List ℕ) (p : Part) (hs : List (List ℕ)) → p .start + p .len ≤ length s → Each (λ h. length h ≡ 32) hs → cut s p ≡ encoded hs
-    → pathAt s p ≡ good (joined hs)
-
--- a refused copy changes no byte; otherwise the bytes past those written stay
-abbrev pub CopyKeeps : Type 0
-CopyKeeps =
-    (s : List ℕ) (p : Part) (out : List ℕ)
-    → ((x at : ℕ) → copyPath s p out .answer ≡ bad x at → copyPath s p out .bytes ≡ out)
-    × ((m : ℕ) → copyPath s p out .answer ≡ good m → drop m (copyPath s p out .bytes) ≡ drop m out)
+EmptyIsNeither = (a b r : RefT (List ℕ)) → Returns (which (a .now) (b .now)) a b r → r .now ≡ [] → which (a .now) (b .now) ≡ Neither
 
 -- the lines of the table that have a path: it is their fourth field
 abbrev pub HasPath : Case → Type 0
@@ -120,7 +110,7 @@ HasPath SignedHead = ⊥
 HasPath Page = ⊥
 
 abbrev pub pathPart : Reading → Part
-pathPart r = getD (r .fields) 3 none
+pathPart r = getD (r .fields) 3 noPart
 
 -- the path of an item that was read is copied, and what is copied is what the item says and what the writer is given for it
 pub record PathSaid (s : List ℕ) (r : Reading) : Type 0 where
@@ -136,20 +126,20 @@ PathIsSaid = (s : List ℕ) (r : Reading) → readItem s ≡ good r → HasPath 
 -- a path what P says of its part.
 abbrev pub Taken : (Part → List ℕ → Type 0) → List ℕ → Item → ℕ → Numbers → Vectors → Type 0
 Taken P s (entry kind timestamp issuerKeyHash certificate extensions) k n t =
-    (k ≡ kind) × (n .timestamp ≡ timestamp .value) × (t .issuerKeyHash ≡ cut s issuerKeyHash) × (t .certificate ≡ cut s certificate)
-    × (t .extensions ≡ cut s extensions)
+    (k ≡ kind) × (n .timestamp ≡ timestamp .value) × (t .issuerKeyHash ≡ bytesAt s issuerKeyHash) × (t .certificate ≡ bytesAt s certificate)
+    × (t .extensions ≡ bytesAt s extensions)
 Taken P s (receipt kind logId timestamp extensions signature) k n t =
-    (k ≡ kind) × (t .logId ≡ cut s logId) × (n .timestamp ≡ timestamp .value) × (t .extensions ≡ cut s extensions) × (t .signature ≡ cut s signature)
+    (k ≡ kind) × (t .logId ≡ bytesAt s logId) × (n .timestamp ≡ timestamp .value) × (t .extensions ≡ bytesAt s extensions) × (t .signature ≡ bytesAt s signature)
 Taken P s (signedHead kind logId timestamp size rootHash extensions signature) k n t =
-    (k ≡ kind) × (t .logId ≡ cut s logId) × (n .timestamp ≡ timestamp .value) × (n .size ≡ size .value) × (t .rootHash ≡ cut s rootHash)
-    × (t .extensions ≡ cut s extensions) × (t .signature ≡ cut s signature)
+    (k ≡ kind) × (t .logId ≡ bytesAt s logId) × (n .timestamp ≡ timestamp .value) × (n .size ≡ size .value) × (t .rootHash ≡ bytesAt s rootHash)
+    × (t .extensions ≡ bytesAt s extensions) × (t .signature ≡ bytesAt s signature)
 Taken P s (consistency kind logId sizeOne sizeTwo path) k n t =
-    (k ≡ kind) × (t .logId ≡ cut s logId) × (n .«size_one» ≡ sizeOne .value) × (n .«size_two» ≡ sizeTwo .value) × P path (t .path)
+    (k ≡ kind) × (t .logId ≡ bytesAt s logId) × (n .«size_one» ≡ sizeOne .value) × (n .«size_two» ≡ sizeTwo .value) × P path (t .path)
 Taken P s (inclusion kind logId size place path) k n t =
-    (k ≡ kind) × (t .logId ≡ cut s logId) × (n .size ≡ size .value) × (n .place ≡ place .value) × P path (t .path)
+    (k ≡ kind) × (t .logId ≡ bytesAt s logId) × (n .size ≡ size .value) × (n .place ≡ place .value) × P path (t .path)
 Taken P s (page kind timestamp agreement number body) k n t =
-    (k ≡ kind) × (n .timestamp ≡ timestamp .value) × (n .agreement ≡ agreement .value) × (n .page ≡ number .value) × (t .body ≡ cut s body)
-Taken P s (refused number place) k n t = ⊥
+    (k ≡ kind) × (n .timestamp ≡ timestamp .value) × (n .agreement ≡ agreement .value) × (n .page ≡ number .value) × (t .body ≡ bytesAt s body)
+Taken P s (refused number place met) k n t = ⊥
 
 -- the path that is copied of its part
 abbrev pub Copied : List ℕ → Part → List ℕ → Type 0

@@ -1,23 +1,29 @@
 -- Whole items: what the reader answers and what the writer writes (document 01, 'Items'; RFC 9162, sections 4.5 to 4.12). Assumes nothing.
 use Prim.Native.Nat.{ℕ}
-use mathlib.Core.List.{List, [], _∷_, _++_, map}
+use mathlib.Core.Path.{_≡_}
+use mathlib.Core.List.{List, [], _∷_, map}
 use mathlib.Core.Bool.{cond}
-use lib.ListN.{length, take, drop}
+use lib.ListN.{length, take}
 use lib.Dec.{ltb}
-use Rattle.item.specs.declared.layout.Part.{Part}
+use Rattle.octets.specs.Limits.{mostItem}
+use Rattle.octets.specs.Numbers.{unbe, be}
+use Rattle.fields.specs.declared.layout.Part.{Part}
+use Rattle.fields.specs.Checked.{Checked, good, bad, then}
+use Rattle.fields.specs.Layout.{read, found}
+use Rattle.fields.specs.Write.{Value, uint, bytes, Filled, join, write}
+use Rattle.fields.specs.Effect.{Effect, effect}
 use Rattle.item.specs.declared.table.Case.{Case}
 use Rattle.item.specs.declared.table.Case.the-variants.{Entry, Receipt, SignedHead, Consistency, Inclusion, Page}
 use Rattle.item.specs.declared.reader.Item.{Item}
-use Rattle.item.specs.declared.reader.Item.the-variants.{Entry as entry, Receipt as receipt, SignedHead as signedHead, Consistency as consistency, Inclusion as inclusion, Page as page, Refused as refused}
+use Rattle.item.specs.declared.reader.Item.the-variants.{Entry as entry, Receipt as receipt, SignedHead as signedHead, Consistency as consistency}
+use Rattle.item.specs.declared.reader.Item.the-variants.{Inclusion as inclusion, Page as page, Refused as refused}
+use Rattle.item.specs.declared.table.Met.{Met}
+use Rattle.item.specs.declared.table.Met.the-variants.{Whole, TypeBytes}
 use Rattle.item.specs.declared.table.Name.{Name}
-use Rattle.item.specs.declared.table.Name.the-variants.{Timestamp, Size, SizeOne, SizeTwo, Place, Agreement, PageNumber, LogId, IssuerKeyHash, Certificate, RootHash, Extensions, Signature, Path, Body}
+use Rattle.item.specs.declared.table.Name.the-variants.{Timestamp, Size, SizeOne, SizeTwo, Place, Agreement, PageNumber}
+use Rattle.item.specs.declared.table.Name.the-variants.{LogId, IssuerKeyHash, Certificate, RootHash, Extensions, Signature, Path, Body}
 use Rattle.item.specs.declared.writer.Numbers.{Numbers}
-use Rattle.item.specs.declared.writer.Written.{Written}
-use Rattle.item.specs.declared.writer.Written.the-variants.{Length, Refused as refusedAt}
-use Rattle.item.specs.Checked.{Checked, good, bad, then}
-use Rattle.item.specs.Layout.{unbe, be, read}
-use Rattle.item.specs.Write.{Value, uint, bytes, Filled, join, write}
-use Rattle.item.specs.Table.{limit, fieldOf, namesOf, layoutOf, types, find}
+use Rattle.item.specs.Table.{fieldOf, namesOf, layoutOf, metIn, types, find}
 
 -- an item that was read: its line of the table, its type, and where its fields lie, in the table's order
 pub record Reading : Type 0 where
@@ -42,14 +48,36 @@ reading (inclusion k logId size place path) =
     item Inclusion k (logId ∷ size ∷ place ∷ path ∷ [])
 reading (page k timestamp agreement number body) =
     item Page k (timestamp ∷ agreement ∷ number ∷ body ∷ [])
-reading (refused number place) = bad number place
+reading (refused number place met) = bad number place
 
 -- a whole item: 1 at 0 if it is too long; then the two bytes of its type; then its fields
 unfoldable pub readItem : List ℕ → Checked Reading
 readItem s =
-    cond (ltb limit (length s)) (bad 1 0)
+    cond (ltb mostItem (length s)) (bad 1 0)
     (cond (ltb (length s) 2) (bad 2 0)
     (then (find types (unbe (take 2 s))) (λ c. then (read (layoutOf c) s 2) (item c (unbe (take 2 s))))))
+
+-- what a refusal met: the whole item where it is too long, its type where that is cut or not in the list, the first field that is not found, or what comes
+-- after the last
+abbrev pub metAfter : Checked Case → (Case → Met) → Met
+metAfter (good c) go = go c
+metAfter (bad x at) go = TypeBytes
+
+unfoldable pub metBy : List ℕ → Met
+metBy s =
+    cond (ltb mostItem (length s)) Whole
+    (cond (ltb (length s) 2) TypeBytes
+    (metAfter (find types (unbe (take 2 s))) (λ c. metIn c (length (found (layoutOf c) s 2)))))
+
+-- what the answer says of it; an item that is read met nothing
+abbrev pub Meets : Item → Met → Type 0
+Meets (refused number place met) m = met ≡ m
+Meets (entry k a b c d) m = Unit
+Meets (receipt k a b c d) m = Unit
+Meets (signedHead k a b c d e f) m = Unit
+Meets (consistency k a b c d) m = Unit
+Meets (inclusion k a b c d) m = Unit
+Meets (page k a b c d) m = Unit
 
 -- the bytes that the writer is given for each vector: extensions as their encoded elements, a path as joined hashes
 pub record Vectors : Type 0 where
@@ -87,27 +115,6 @@ valueOf n t Body = bytes (t .body)
 abbrev pub filled : Numbers → Vectors → List Name → List Filled
 filled n t ns = map (λ (x : Name). record { field = fieldOf x; value = valueOf n t x }) ns
 
--- what each case of the writer's answer says
-abbrev pub writing : Written → Checked ℕ
-writing (Length n) = good n
-writing (refusedAt number place) = bad number place
-
--- what the writer answers, and what the lent bytes then hold
-pub record Outcome : Type 0 where
-  pub answer : Checked ℕ
-  pub bytes : List ℕ
-
-abbrev pub unwritten : ℕ → ℕ → List ℕ → Outcome
-unwritten x at out = record { answer = bad x at; bytes = out }
-
-abbrev pub wrote : List ℕ → List ℕ → Outcome
-wrote b out = record { answer = good (length b); bytes = b ++ drop (length b) out }
-
--- an item put into the lent bytes; 9 at 0 where it does not fit; a refusal leaves the bytes as they are
-abbrev pub outcome : List ℕ → Checked (List ℕ) → Outcome
-outcome out (bad x at) = unwritten x at out
-outcome out (good b) = cond (ltb (length out) (length b)) (unwritten 9 0 out) (wrote b out)
-
 -- a whole item: the two bytes of its type, then its fields
-unfoldable pub writeItem : ℕ → Numbers → Vectors → List ℕ → Outcome
-writeItem k n t out = outcome out (then (find types k) (λ c. join (be 2 k) (write (filled n t (namesOf c)) 2)))
+unfoldable pub writeItem : ℕ → Numbers → Vectors → List ℕ → Effect
+writeItem k n t out = effect out (then (find types k) (λ c. join (be 2 k) (write (filled n t (namesOf c)) 2)))

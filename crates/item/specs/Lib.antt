@@ -1,9 +1,5 @@
-pub mod Checked
-pub mod Layout
-pub mod Write
 pub mod Table
 pub mod Item
-pub mod Path
 pub mod Newer
 pub mod Claims
 pub mod Steps

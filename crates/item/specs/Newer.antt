@@ -1,35 +1,27 @@
 -- The newer of two signed heads (RFC 9162, section 4.10; document 01, 'Newer-head'). Assumes nothing.
 use Prim.Native.Nat.{ℕ}
 use mathlib.Core.Path.{_≡_}
-use mathlib.Core.List.{List, [], _∷_}
-use mathlib.Core.Bool.{Bool, true, false, cond}
+use mathlib.Core.List.{List, []}
+use mathlib.Core.Bool.{cond}
 use lib.ListN.{getD}
-use lib.Dec.{ltb, eqb}
+use lib.Dec.{ltb}
 use denote.Ref.{RefT}
-use Rattle.item.specs.declared.layout.Part.{Part}
+use Rattle.octets.specs.Bytes.{same}
+use Rattle.fields.specs.declared.layout.Part.{Part}
+use Rattle.fields.specs.Checked.{Checked, good, bad}
+use Rattle.fields.specs.Layout.{bytesAt}
+use Rattle.fields.specs.Answers.{noPart}
 use Rattle.item.specs.declared.table.Case.{Case}
 use Rattle.item.specs.declared.table.Case.the-variants.{Entry, Receipt, SignedHead, Consistency, Inclusion, Page}
 use Rattle.item.specs.declared.heads.Head.{Head}
 use Rattle.item.specs.declared.heads.Head.the-variants.{Read, Unreadable}
 use Rattle.item.specs.declared.heads.Choice.{Choice}
 use Rattle.item.specs.declared.heads.Choice.the-variants.{First, Second, Neither}
-use Rattle.item.specs.Checked.{Checked, good, bad}
-use Rattle.item.specs.Layout.{cut}
 use Rattle.item.specs.Item.{Reading, readItem}
-
--- two byte strings are the same
-unfoldable pub same : List ℕ → List ℕ → Bool
-same [] [] = true
-same [] (y ∷ ys) = false
-same (x ∷ xs) [] = false
-same (x ∷ xs) (y ∷ ys) = cond (eqb x y) (same xs ys) false
-
-abbrev pub none : Part
-none = record { start = 0; len = 0; value = 0 }
 
 -- what a signed head is compared by: its first three fields are log id, timestamp and size
 abbrev pub headIn : Case → List Part → Head
-headIn SignedHead ps = Read (getD ps 0 none) (getD ps 1 none .value) (getD ps 2 none .value)
+headIn SignedHead ps = Read (getD ps 0 noPart) (getD ps 1 noPart .value) (getD ps 2 noPart .value)
 headIn Entry ps = Unreadable
 headIn Receipt ps = Unreadable
 headIn Consistency ps = Unreadable
@@ -45,7 +37,7 @@ abbrev pub chosen : List ℕ → List ℕ → Head → Head → Choice
 chosen a b Unreadable h = Neither
 chosen a b (Read l t z) Unreadable = Neither
 chosen a b (Read l t z) (Read m u y) =
-    cond (same (cut a l) (cut b m))
+    cond (same (bytesAt a l) (bytesAt b m))
     (cond (ltb z y) Second
     (cond (ltb y z) First
     (cond (ltb t u) Second First)))
@@ -55,7 +47,7 @@ abbrev pub which : List ℕ → List ℕ → Choice
 which a b = chosen a b (headOf (readItem a)) (headOf (readItem b))
 
 -- the very reference that is chosen; for neither, the empty part that starts where the first does
-abbrev pub handed : Choice → RefT (List ℕ) → RefT (List ℕ) → RefT (List ℕ) → Type 0
-handed First a b r = r ≡ a
-handed Second a b r = r ≡ b
-handed Neither a b r = (r .now ≡ []) × (r .ptr ≡ a .ptr)
+abbrev pub Returns : Choice → RefT (List ℕ) → RefT (List ℕ) → RefT (List ℕ) → Type 0
+Returns First a b r = r ≡ a
+Returns Second a b r = r ≡ b
+Returns Neither a b r = (r .now ≡ []) × (r .ptr ≡ a .ptr)

@@ -1,10 +1,11 @@
 // The newer of two signed heads of one log.
-use crate::layout::Part;
 use crate::reader::Item;
 use crate::reader::read;
+use fields::layout::Part;
+use octets::same;
 ghost use mathlib.Core.Path.{_≡_};
 ghost use Rattle.item.specs.Item.{readItem};
-ghost use Rattle.item.specs.Newer.{same as sameBytes, headOf, which, handed};
+ghost use Rattle.item.specs.Newer.{headOf, which, Returns};
 ghost use Rattle.item.specs.Steps.{LogWithin};
 
 // What a signed head is compared by: where its log id lies, its timestamp and its size.
@@ -21,22 +22,6 @@ pub enum Choice {
     First,
     Second,
     Neither,
-}
-
-fn same<'a>(a: &'a [u8], b: &'a [u8]) -> bool
-    ensures { λ r. ⌜ r ≡ sameBytes (now (a .entry)) (now (b .entry)) ⌝ }
-{
-    if a.len() != b.len() {
-        return false;
-    }
-    let mut i: usize = 0;
-    while i < a.len() {
-        if a[i] != b[i] {
-            return false;
-        }
-        i += 1;
-    }
-    true
 }
 
 fn head_of(s: &[u8]) -> Head
@@ -111,7 +96,7 @@ fn choose<'a>(first: &'a [u8], second: &'a [u8]) -> Choice
 // The newer of two signed heads, that very part of the caller's bytes; the empty part at the start of the first
 // where either is not a readable head, or their log ids differ.
 pub fn newer<'a>(first: &'a [u8], second: &'a [u8]) -> &'a [u8]
-    ensures { λ r. ⌜ handed (which (now (first .entry)) (now (second .entry))) (first .entry) (second .entry) r ⌝ }
+    ensures { λ r. ⌜ Returns (which (now (first .entry)) (now (second .entry))) (first .entry) (second .entry) r ⌝ }
 {
     let c = choose(first, second);
     match c {

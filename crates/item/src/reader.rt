@@ -1,25 +1,26 @@
 // Reading a whole item: 1 first, then left to right.
-use crate::layout::FieldRead;
-use crate::layout::Part;
-use crate::layout::number;
-use crate::layout::read_field;
 use crate::table::Case;
 use crate::table::Known;
-use crate::table::LIMIT;
+use crate::table::Met;
 use crate::table::case_of;
 use crate::table::count_of;
-use crate::table::field_of;
-use crate::table::names_of;
+use crate::table::layout_of;
+use crate::table::met_behind;
+use fields::layout::Part;
+use fields::reading::MOST_FIELDS;
+use fields::reading::read_layout;
+use octets::Width;
+use octets::limits::MOST_ITEM;
+use octets::number_at;
 ghost use mathlib.Core.Path.{_≡_};
 ghost use mathlib.Core.List.{[], _∷_};
-ghost use Prim.Native.Nat.{_≤_};
 ghost use lib.ListN.{length, take};
-ghost use Rattle.item.specs.Checked.{then};
-ghost use Rattle.item.specs.Layout.{read as readLayout};
-ghost use Rattle.item.specs.Table.{namesOf, layoutOf};
-ghost use Rattle.item.specs.Item.{item, reading, readItem};
+ghost use Rattle.fields.specs.Checked.{then};
+ghost use Rattle.fields.specs.Layout.{read as readLayout, found};
+ghost use Rattle.item.specs.Table.{namesOf, layoutOf, metIn};
+ghost use Rattle.item.specs.Item.{item, reading, readItem, Meets, metBy};
 
-// Where the fields of an item lie, each by its name, with its type; or the number and the place of a refusal.
+// Where the fields of an item lie, each by its name, with its type; or the number and the place of a refusal, and what it met.
 pub enum Item {
     Entry {
         kind: u16,
@@ -68,6 +69,7 @@ pub enum Item {
     Refused {
         number: u32,
         place: usize,
+        met: Met,
     },
 }
 
@@ -124,8 +126,8 @@ fn in_order(case: Case, kind: u16, a: Part, b: Part, c: Part, d: Part, e: Part, 
 }
 
 // The parts of a case by their names.
-fn named(case: Case, kind: u16, parts: [Part; 6]) -> Item
-    requires { ⌜ length parts ≡ 6 ⌝ }
+fn named(case: Case, kind: u16, parts: [Part; MOST_FIELDS]) -> Item
+    requires { ⌜ length parts ≡ 8 ⌝ }
     ensures { λ r. ⌜ reading r ≡ item case kind (take (length (namesOf case)) parts) ⌝ }
 {
     in_order(
@@ -142,64 +144,48 @@ fn named(case: Case, kind: u16, parts: [Part; 6]) -> Item
 
 // The fields of a case, after the two bytes of the type, and nothing after them.
 fn read_fields(s: &[u8], kind: u16, case: Case) -> Item
-    requires { ⌜ 2 ≤ length (now s) ⌝ }
-    ensures { λ r. ⌜ reading r ≡ then (readLayout (layoutOf case) (now (s .entry)) 2) (item case kind) ⌝ }
+    ensures { λ r. ⌜
+        (reading r ≡ then (readLayout (layoutOf case) (now (s .entry)) 2) (item case kind))
+        × Meets r (metIn case (length (found (layoutOf case) (now (s .entry)) 2))) ⌝ }
 {
-    let names = names_of(case);
+    let layout = layout_of(case);
     let n = count_of(case);
-    let mut parts = [Part {
-        start: 0,
-        len: 0,
-        value: 0,
-    }; 6];
-    let mut at: usize = 2;
-    let mut i: usize = 0;
-    while i < n {
-        let name = names[i];
-        let f = field_of(name);
-        let r = read_field(s, at, f);
-        match r {
-            FieldRead::Bad { number, place } => {
-                return Item::Refused { number, place };
-            }
-            FieldRead::Found(p) => {
-                parts[i] = p;
-                at = p.start + p.len;
-            }
-        }
-        i += 1;
+    let r = read_layout(s, 2, layout, n);
+    let number = r.number;
+    if number != 0 {
+        let place = r.place;
+        let met = met_behind(case, r.met);
+        return Item::Refused { number, place, met };
     }
-    if at < s.len() {
-        return Item::Refused {
-            number: 3,
-            place: at,
-        };
-    }
+    let parts = r.parts;
     named(case, kind, parts)
 }
 
 // Where each field of an item lies.
 pub fn read(s: &[u8]) -> Item
-    ensures { λ r. ⌜ reading r ≡ readItem (now (s .entry)) ⌝ }
+    ensures { λ r. ⌜ (reading r ≡ readItem (now (s .entry))) × Meets r (metBy (now (s .entry))) ⌝ }
 {
-    if LIMIT < s.len() {
+    if MOST_ITEM < s.len() {
         return Item::Refused {
             number: 1,
             place: 0,
+            met: Met::Whole,
         };
     }
     if s.len() < 2 {
         return Item::Refused {
             number: 2,
             place: 0,
+            met: Met::TypeBytes,
         };
     }
-    let kind = number(s, 0, 2) as u16;
+    let kind = number_at(s, 0, Width::Two) as u16;
     let known = case_of(kind);
     match known {
         Known::Unknown => Item::Refused {
             number: 4,
             place: 0,
+            met: Met::TypeBytes,
         },
         Known::As(case) => read_fields(s, kind, case),
     }

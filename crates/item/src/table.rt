@@ -1,10 +1,12 @@
 // Document 01's table of items: the kind of each named field, the fields of each case, and the types of each case.
-use crate::layout::Field;
-use crate::layout::Inner;
+use fields::layout::Field;
+use fields::layout::Inner;
+use fields::reading::MOST_FIELDS;
+use octets::Width;
 ghost use mathlib.Core.Path.{_≡_};
 ghost use Prim.Native.Nat.{_≤_};
 ghost use lib.ListN.{length, take};
-ghost use Rattle.item.specs.Table.{fieldOf, namesOf, find, types};
+ghost use Rattle.item.specs.Table.{fieldOf, namesOf, layoutOf, metIn, find, types};
 ghost use Rattle.item.specs.Steps.{known};
 
 // Every field that some item has.
@@ -36,13 +38,18 @@ pub enum Case {
     Page,
 }
 
+// What a refusal of the reader met: the whole item, which is too long; the two bytes of its type; a field by its name; bytes after the last field.
+pub enum Met {
+    Whole,
+    TypeBytes,
+    Named(Name),
+    After,
+}
+
 pub enum Known {
     As(Case),
     Unknown,
 }
-
-// The longest item, in bytes.
-pub(crate) const LIMIT: usize = 33554432;
 
 const ROWS: usize = 8;
 
@@ -156,60 +163,90 @@ pub(crate) fn field_of(name: Name) -> Field
     ensures { λ r. ⌜ r ≡ fieldOf name ⌝ }
 {
     match name {
-        Name::Timestamp => Field::Uint(8),
-        Name::Size => Field::Uint(8),
-        Name::SizeOne => Field::Uint(8),
-        Name::SizeTwo => Field::Uint(8),
-        Name::Place => Field::Uint(8),
-        Name::Agreement => Field::Uint(8),
-        Name::PageNumber => Field::Uint(2),
+        Name::Timestamp => Field::Uint(Width::Eight),
+        Name::Size => Field::Uint(Width::Eight),
+        Name::SizeOne => Field::Uint(Width::Eight),
+        Name::SizeTwo => Field::Uint(Width::Eight),
+        Name::Place => Field::Uint(Width::Eight),
+        Name::Agreement => Field::Uint(Width::Eight),
+        Name::PageNumber => Field::Uint(Width::Two),
         Name::LogId => Field::Vector {
-            width: 1,
+            width: Width::One,
             least: 2,
             most: 127,
             inner: Inner::Opaque,
         },
         Name::IssuerKeyHash => Field::Vector {
-            width: 1,
+            width: Width::One,
             least: 32,
             most: 32,
             inner: Inner::Opaque,
         },
         Name::Certificate => Field::Vector {
-            width: 3,
+            width: Width::Three,
             least: 1,
             most: 16777215,
             inner: Inner::Opaque,
         },
         Name::RootHash => Field::Vector {
-            width: 1,
+            width: Width::One,
             least: 32,
             most: 32,
             inner: Inner::Opaque,
         },
         Name::Extensions => Field::Vector {
-            width: 2,
+            width: Width::Two,
             least: 0,
             most: 65535,
             inner: Inner::ExtensionList,
         },
         Name::Signature => Field::Vector {
-            width: 2,
+            width: Width::Two,
             least: 1,
             most: 65535,
             inner: Inner::Opaque,
         },
         Name::Path => Field::Vector {
-            width: 2,
+            width: Width::Two,
             least: 0,
             most: 65535,
             inner: Inner::NodeList,
         },
         Name::Body => Field::Vector {
-            width: 3,
+            width: Width::Three,
             least: 1,
             most: 16777215,
             inner: Inner::Opaque,
         },
     }
+}
+
+// The fields of a line, as the reader takes them.
+pub(crate) fn layout_of(case: Case) -> [Field; MOST_FIELDS]
+    ensures { λ r. ⌜ take (length (namesOf case)) r ≡ layoutOf case ⌝ }
+{
+    let names = names_of(case);
+    let n = count_of(case);
+    let mut layout = [Field::Uint(Width::One); MOST_FIELDS];
+    let mut i: usize = 0;
+    while i < n {
+        let name = names[i];
+        let f = field_of(name);
+        layout[i] = f;
+        i += 1;
+    }
+    layout
+}
+
+// What was met behind so many fields that were found.
+pub(crate) fn met_behind(case: Case, found: usize) -> Met
+    ensures { λ r. ⌜ r ≡ metIn case found ⌝ }
+{
+    let names = names_of(case);
+    let n = count_of(case);
+    if found < n {
+        let name = names[found];
+        return Met::Named(name);
+    }
+    Met::After
 }

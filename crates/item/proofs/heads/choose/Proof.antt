@@ -5,13 +5,15 @@ use Prim.Native.Nat.{ℕ, _+_, _-_, _≤_, _<_}
 use native.Mathlib.Omega.{arith}
 use lib.ListN.{length, take, drop}
 use borrow.Author.Tests.{lt-ltb, le-ltb, not-true, not-false}
-use Rattle.item.specs.declared.layout.Part.{Part}
+use Rattle.fields.specs.declared.layout.Part.{Part}
 use Rattle.item.specs.declared.heads.Head.the-variants.{Read, Unreadable}
 use Rattle.item.specs.declared.heads.Choice.the-variants.{First, Second, Neither}
-use Rattle.item.specs.Layout.{cut}
+use Rattle.fields.specs.Layout.{bytesAt}
 use Rattle.item.specs.Item.{readItem}
-use Rattle.item.specs.Newer.{same as sameBytes, headOf, which}
-use Rattle.item.specs.Steps.{LogWithin, part}
+use Rattle.octets.specs.Bytes.{same as sameBytes}
+use Rattle.item.specs.Newer.{headOf, which}
+use Rattle.item.specs.Steps.{LogWithin}
+use Rattle.fields.specs.Inner.{part}
 use borrow.Author.Needs.{needs}
 use Rattle.item.proofs.heads.choose.Statement.{statement}
 use Rattle.item.proofs.heads.choose.Tie as tie
@@ -26,10 +28,10 @@ module _ (a b : List ℕ) where
     no-second e = rw (ha, e)
 
     module _ (m : Part) (u y : ℕ) (hb : headOf (readItem b) ≡ Read m u y) where
-      other-log : sameBytes (cut a l) (cut b m) ≡ false → Neither ≡ which a b
+      other-log : sameBytes (bytesAt a l) (bytesAt b m) ≡ false → Neither ≡ which a b
       other-log e = rw (ha, hb, e)
 
-      module _ (one : sameBytes (cut a l) (cut b m) ≡ true) where
+      module _ (one : sameBytes (bytesAt a l) (bytesAt b m) ≡ true) where
         larger : z < y → Second ≡ which a b
         larger h = rw (ha, hb, one, lt-ltb _ _ h)
 
@@ -43,8 +45,8 @@ module _ (a b : List ℕ) where
           not-later : u ≤ t → First ≡ which a b
           not-later h = let p : y ≤ z = omega arith in let q : z ≤ y = omega arith in rw (ha, hb, one, le-ltb _ _ p, le-ltb _ _ q, le-ltb _ _ h)
 
-part-cut : (s : List ℕ) (p : Part) → part s (p .start) (p .start + p .len) ≡ cut s p
-part-cut s p = let z : p .start + p .len - p .start ≡ p .len = omega arith in ap (λ (k : ℕ). take k (drop (p .start) s)) z
+part-bytesAt : (s : List ℕ) (p : Part) → part s (p .start) (p .start + p .len) ≡ bytesAt s p
+part-bytesAt s p = let z : p .start + p .len - p .start ≡ p .len = omega arith in ap (λ (k : ℕ). take k (drop (p .start) s)) z
 
 head-of-requires : tie.Need-head-of-requires
 head-of-requires c κs = search needs
@@ -90,10 +92,10 @@ within-second : (k : tie.After-struct-known) → M k .start + M k .len ≤ lengt
 within-second k = subst (LogWithin (E k .args .second .now)) (k .before .before .b .given .1) (k .before .before .before .before .before .before .before .head-of2 .ensures .1)
 
 -- what comparing the log ids said
-compared : (s : tie.After-same) → s .same .result ≡ sameBytes (cut (E (s .before .before .before .before) .args .first .now) (L (s .before .before .before .before))) (cut (E (s .before .before .before .before) .args .second .now) (M (s .before .before .before .before)))
+compared : (s : tie.After-same) → s .same .result ≡ sameBytes (bytesAt (E (s .before .before .before .before) .args .first .now) (L (s .before .before .before .before))) (bytesAt (E (s .before .before .before .before) .args .second .now) (M (s .before .before .before .before)))
 compared s =
     let k = s .before .before .before .before in
-    s .same .ensures ∙ ap₂ sameBytes (part-cut (E k .args .first .now) (L k)) (part-cut (E k .args .second .now) (M k))
+    s .same .ensures ∙ ap₂ sameBytes (part-bytesAt (E k .args .first .now) (L k)) (part-bytesAt (E k .args .second .now) (M k))
 
 returns-2 : tie.Need-returns-2
 returns-2 c = no-second _ _ _ _ _ (sym (c .before .before .before .before .before .before .head-of .ensures .0) ∙ c .before .before .before .a .given .1) (sym (c .before .before .before .before .before .head-of2 .ensures .0) ∙ c .enum-told2 .given .1)

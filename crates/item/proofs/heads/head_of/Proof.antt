@@ -2,7 +2,7 @@ use mathlib.Core.Path.{_≡_, ap, sym, _∙_}
 use mathlib.Core.List.{List}
 use Prim.Native.Nat.{ℕ, _+_, _≤_}
 use lib.ListN.{length}
-use Rattle.item.specs.declared.layout.Part.{Part}
+use Rattle.fields.specs.declared.layout.Part.{Part}
 use Rattle.item.specs.declared.heads.Head.the-variants.{Read}
 use Rattle.item.specs.declared.reader.Item.{Item}
 use Rattle.item.specs.declared.reader.Item.the-variants.{SignedHead}
@@ -46,25 +46,25 @@ enum-told-6 : tie.Need-enum-told-6
 enum-told-6 c = search needs
 
 returns : tie.Need-returns
-returns c = signed _ _ (c .before .before .before .read .ensures) _ _ _ _ _ _ _ (c .before .item .given .1)
+returns c = signed _ _ (c .before .before .before .read .ensures .0) _ _ _ _ _ _ _ (c .before .item .given .1)
 
 returns-2 : tie.Need-returns-2
-returns-2 c = (by _ _ (c .before .before .read .ensures) _ (c .enum-told .given .1), tt)
+returns-2 c = (by _ _ (c .before .before .read .ensures .0) _ (c .enum-told .given .1), tt)
 
 returns-3 : tie.Need-returns-3
-returns-3 c = (by _ _ (c .before .before .read .ensures) _ (c .enum-told2 .given .1), tt)
+returns-3 c = (by _ _ (c .before .before .read .ensures .0) _ (c .enum-told2 .given .1), tt)
 
 returns-4 : tie.Need-returns-4
-returns-4 c = (by _ _ (c .before .before .read .ensures) _ (c .enum-told3 .given .1), tt)
+returns-4 c = (by _ _ (c .before .before .read .ensures .0) _ (c .enum-told3 .given .1), tt)
 
 returns-5 : tie.Need-returns-5
-returns-5 c = (by _ _ (c .before .before .read .ensures) _ (c .enum-told4 .given .1), tt)
+returns-5 c = (by _ _ (c .before .before .read .ensures .0) _ (c .enum-told4 .given .1), tt)
 
 returns-6 : tie.Need-returns-6
-returns-6 c = (by _ _ (c .before .before .read .ensures) _ (c .enum-told5 .given .1), tt)
+returns-6 c = (by _ _ (c .before .before .read .ensures .0) _ (c .enum-told5 .given .1), tt)
 
 returns-7 : tie.Need-returns-7
-returns-7 c = (by _ _ (c .before .before .read .ensures) _ (c .enum-told6 .given .1), tt)
+returns-7 c = (by _ _ (c .before .before .read .ensures .0) _ (c .enum-told6 .given .1), tt)
 
 pub head-of-spec : {M : Type 1} → statement M
 head-of-spec =

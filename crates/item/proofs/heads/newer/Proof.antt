@@ -4,14 +4,14 @@ use denote.Ref.{RefT}
 use Rattle.item.specs.declared.heads.Choice.{Choice}
 use Rattle.item.specs.declared.heads.Choice.the-variants.{First, Second, Neither}
 use mathlib.Core.Path.{_≡_, refl, sym, subst, _∙_}
-use Rattle.item.specs.Newer.{handed}
+use Rattle.item.specs.Newer.{Returns}
 use borrow.Author.Needs.{needs}
 use Rattle.item.proofs.heads.newer.Statement.{statement}
 use Rattle.item.proofs.heads.newer.Tie as tie
 
--- what was chosen is handed over
-hand : (w c : Choice) (a b r : RefT (List ℕ)) → c ≡ w → (d : Choice) → c ≡ d → handed d a b r → handed w a b r
-hand w c a b r e d told h = subst (λ (x : Choice). handed x a b r) (sym told ∙ e) h
+-- what was chosen is Returns over
+hand : (w c : Choice) (a b r : RefT (List ℕ)) → c ≡ w → (d : Choice) → c ≡ d → Returns d a b r → Returns w a b r
+hand w c a b r e d told h = subst (λ (x : Choice). Returns x a b r) (sym told ∙ e) h
 
 choose-requires : tie.Need-choose-requires
 choose-requires c κs = search needs

@@ -9,8 +9,8 @@ use lib.Dec.{eqb}
 use lib.Seq.{drop-cons}
 use borrow.Author.Tests.{eq-eqb, ne-eqb}
 use Rattle.item.specs.declared.table.Case.the-variants.{Entry}
-use Rattle.item.specs.Checked.{good}
-use Rattle.item.specs.Table.{Row, row, types, find}
+use Rattle.fields.specs.Checked.{good}
+use Rattle.item.specs.Table.{TypeRow, typeRow, types, find}
 use Rattle.item.proofs.table.case_of.Statement.{statement}
 use Rattle.item.proofs.table.case_of.Tie as tie
 
@@ -21,23 +21,23 @@ abbrev μ-loop : tie.MeasureT-loop
 μ-loop kind i₀ i = length types - i
 
 -- the row at a place of any list of them
-module _ (rs : List Row) (k i : ℕ) (more : i < length rs) where
-  this : find (drop i rs) k ≡ cond (eqb k (getD rs i (row 0 Entry) .kind)) (good (getD rs i (row 0 Entry) .case)) (find (drop (suc i) rs) k)
+module _ (rs : List TypeRow) (k i : ℕ) (more : i < length rs) where
+  this : find (drop i rs) k ≡ cond (eqb k (getD rs i (typeRow 0 Entry) .kind)) (good (getD rs i (typeRow 0 Entry) .case)) (find (drop (suc i) rs) k)
   unfolding find
-  this = rw (drop-cons rs i (row 0 Entry))
+  this = rw (drop-cons rs i (typeRow 0 Entry))
 
-  hit : getD rs i (row 0 Entry) .kind ≡ k → find (drop i rs) k ≡ good (getD rs i (row 0 Entry) .case)
-  hit e = this ∙ rw (eq-eqb k (getD rs i (row 0 Entry) .kind) (sym e))
+  hit : getD rs i (typeRow 0 Entry) .kind ≡ k → find (drop i rs) k ≡ good (getD rs i (typeRow 0 Entry) .case)
+  hit e = this ∙ rw (eq-eqb k (getD rs i (typeRow 0 Entry) .kind) (sym e))
 
-  miss : (getD rs i (row 0 Entry) .kind ≡ k → ⊥) → find (drop i rs) k ≡ find (drop (i + 1) rs) k
-  miss e = this ∙ rw (ne-eqb k (getD rs i (row 0 Entry) .kind) (λ z. e (sym z)), add-one)
+  miss : (getD rs i (typeRow 0 Entry) .kind ≡ k → ⊥) → find (drop i rs) k ≡ find (drop (i + 1) rs) k
+  miss e = this ∙ rw (ne-eqb k (getD rs i (typeRow 0 Entry) .kind) (λ z. e (sym z)), add-one)
 
-kind-at : (rs : List Row) (i : ℕ) → getD (map (λ (r : Row). r .kind) rs) i 0 ≡ getD rs i (row 0 Entry) .kind
+kind-at : (rs : List TypeRow) (i : ℕ) → getD (map (λ (r : TypeRow). r .kind) rs) i 0 ≡ getD rs i (typeRow 0 Entry) .kind
 kind-at [] i = refl
 kind-at (r ∷ rs) Prim.Native.Nat.zero = refl
 kind-at (r ∷ rs) (suc i) = kind-at rs i
 
-case-at : (rs : List Row) (i : ℕ) → getD (map (λ (r : Row). r .case) rs) i Entry ≡ getD rs i (row 0 Entry) .case
+case-at : (rs : List TypeRow) (i : ℕ) → getD (map (λ (r : TypeRow). r .case) rs) i Entry ≡ getD rs i (typeRow 0 Entry) .case
 case-at [] i = refl
 case-at (r ∷ rs) Prim.Native.Nat.zero = refl
 case-at (r ∷ rs) (suc i) = case-at rs i
@@ -58,7 +58,7 @@ returns : tie.Need-returns Inv-loop μ-loop
 returns c =
     let l = c .before .before .before in
     let k = l .before .args .kind in
-    let e : getD types (l .loop .i) (row 0 Entry) .kind ≡ k = sym (kind-at types (l .loop .i)) ∙ c .before .if1 .taken in
+    let e : getD types (l .loop .i) (typeRow 0 Entry) .kind ≡ k = sym (kind-at types (l .loop .i)) ∙ c .before .if1 .taken in
     ap good (case-at types (l .loop .i)) ∙ sym (l .loop .inv .1 ∙ hit types k (l .loop .i) (omega arith) e)
 
 add-i : tie.Need-add-i Inv-loop μ-loop

@@ -7,12 +7,15 @@ use borrow.Author.Needs.{needs}
 use Rattle.item.specs.declared.table.Name.{Name}
 use Rattle.item.specs.declared.table.Name.the-variants.{Timestamp}
 use Rattle.item.specs.declared.writer.Numbers.{Numbers}
-use Rattle.item.specs.Write.{fill, write, Filled}
+use Rattle.fields.specs.Write.{fill, write, Filled, held}
 use Rattle.item.specs.Table.{namesOf}
 use Rattle.item.specs.Item.{Vectors, vectors, filled}
-use Rattle.item.specs.Steps.{held, numberOf, takes, ends}
-use Rattle.item.proofs.Writing.{nothing, takes-held, stops, goes, ended, fill-small}
-use Rattle.item.proofs.Rows.{narrow, filled-length, one-at}
+use Rattle.item.specs.Steps.{numberOf}
+use Rattle.fields.specs.Inner.{ends}
+use Rattle.fields.specs.Effect.{takes}
+use Rattle.fields.proofs.Fills.{most}
+use Rattle.fields.proofs.Filling.{nothing, takes-held, takes-short, takes-near, takes-moved, not-moved, stops, goes, ended}
+use Rattle.item.proofs.Rows.{most-small, filled-length, one-at}
 use Rattle.item.proofs.writer.measure.Statement.{statement}
 use Rattle.item.proofs.writer.measure.Tie as tie
 
@@ -43,11 +46,6 @@ field-of-requires c κs = search needs
 
 bytes-of-requires : tie.Need-bytes-of-requires Inv-loop μ-loop
 bytes-of-requires c κs = search needs
-
-check-field-requires : tie.Need-check-field-requires Inv-loop μ-loop
-check-field-requires c κs =
-    let l = c .before .before .before .before in
-    (omega (arith, l .before .count-of .ensures .1), rw (c .before .field-of .ensures) (narrow (getD (l .before .before .names-of .result) (l .loop .i) Timestamp)))
 
 -- the call, the names of the case, and the vectors
 abbrev E : tie.At-loop Inv-loop μ-loop → tie.Start Inv-loop μ-loop
@@ -80,18 +78,28 @@ is k x =
 left : (k : tie.After-check-field Inv-loop μ-loop) (x : Numbers) → top k .loop .i < length (filled x (T (top k)) (names (top k)))
 left k x = let l = top k in omega (arith, filled-length x (T l) (names l), l .loop .inv .2)
 
-said : (k : tie.After-check-field Inv-loop μ-loop) (x : Numbers) → takes (fill (one k x .field) (one k x .value) (top k .loop .at)) ≡ k .check-field .result
-said k x = sym (k .check-field .ensures ∙ takes-held (k .before .before .field-of .result) (number k x) (k .before .bytes-of .result .now) (top k .loop .at))
+said : (k : tie.After-check-field Inv-loop μ-loop) (x : Numbers) → takes (fill (one k x .field) (one k x .value) 0) ≡ k .check-field .result
+said k x = sym (k .check-field .ensures ∙ takes-held (k .before .before .field-of .result) (number k x) (k .before .bytes-of .result .now) 0)
 
 enum-known-c : tie.Need-enum-known-c Inv-loop μ-loop
 enum-known-c c = search needs
+
+-- a field of the table takes few bytes, and is refused within them
+few : (k : tie.After-check-field Inv-loop μ-loop) → most (k .before .before .field-of .result) ≤ 4294967303
+few k = let l = top k in rw (k .before .before .field-of .ensures) (most-small (getD (l .before .before .names-of .result) (l .loop .i) Timestamp))
+
+add-place : tie.Need-add-t26 Inv-loop μ-loop
+add-place c =
+    let k = c .before .before .before in
+    let f = k .before .before .field-of .result in
+    omega (arith, few k, takes-near f (held f 0 (k .before .bytes-of .result .now)) _ _ (sym (k .check-field .ensures) ∙ c .before .c .given .1), top k .loop .inv .1, top k .before .count-of .ensures .1)
 
 returns : tie.Need-returns Inv-loop μ-loop
 returns c =
     let k = c .before .before .before in
     let l = top k in
     λ x. sym (ap (λ (ns : List Name). ends 2 (write (filled x (T l) ns) 2)) (sym (all-names l)) ∙ l .loop .inv .3 x
-    ∙ stops (filled x (T l) (names l)) (l .loop .at) (l .loop .i) (left k x) (one k x) (is k x) _ _ (said k x ∙ c .before .c .given .1))
+    ∙ stops (filled x (T l) (names l)) (l .loop .at) (l .loop .i) (left k x) (one k x) (is k x) _ _ (not-moved (one k x .field) (one k x .value) (l .loop .at) _ _ (said k x ∙ c .before .c .given .1)))
 
 enum-known-c-2 : tie.Need-enum-known-c-2 Inv-loop μ-loop
 enum-known-c-2 c = search needs
@@ -99,8 +107,8 @@ enum-known-c-2 c = search needs
 small : (c : tie.After-known-told2 Inv-loop μ-loop) → c .before .c2 .given .0 .0 ≤ 4294967303
 small c =
     let k = c .before .before .before in
-    let l = top k in
-    fill-small _ _ _ _ (rw (k .before .before .field-of .ensures) (narrow (getD (l .before .before .names-of .result) (l .loop .i) Timestamp))) (sym (k .check-field .ensures) ∙ c .before .c2 .given .1)
+    let f = k .before .before .field-of .result in
+    omega (arith, few k, takes-short f (held f 0 (k .before .bytes-of .result .now)) _ (sym (k .check-field .ensures) ∙ c .before .c2 .given .1))
 
 add-at : tie.Need-add-at Inv-loop μ-loop
 add-at c = omega (arith, small c, top (c .before .before .before) .before .count-of .ensures .1)
@@ -118,7 +126,7 @@ loop-again c =
       omega arith,
       omega (arith, small c),
       l .loop .inv .2,
-      (λ x. l .loop .inv .3 x ∙ goes (filled x (T l) (names l)) (l .loop .at) (l .loop .i) (left k x) (one k x) (is k x) _ (said k x ∙ c .before .c2 .given .1)),
+      (λ x. l .loop .inv .3 x ∙ goes (filled x (T l) (names l)) (l .loop .at) (l .loop .i) (left k x) (one k x) (is k x) _ (takes-moved (one k x .field) (one k x .value) (l .loop .at) _ (said k x ∙ c .before .c2 .given .1))),
     )
 
 returns-2 : tie.Need-returns-2 Inv-loop μ-loop
@@ -139,8 +147,9 @@ measure-spec =
     array-copy-out-name
     field-of-requires
     bytes-of-requires
-    check-field-requires
+    (λ c κs. search needs)
     enum-known-c
+    add-place
     returns
     enum-known-c-2
     add-at

@@ -8,16 +8,19 @@ use native.Mathlib.Nat.{zero-add}
 use borrow.Author.Tests.{lt-ltb, le-ltb}
 use Rattle.item.specs.declared.table.Case.{Case}
 use Rattle.item.specs.declared.writer.Numbers.{Numbers}
-use Rattle.item.specs.declared.writer.Fill.the-variants.{Takes, Not}
-use Rattle.item.specs.Checked.{Checked, good, bad}
-use Rattle.item.specs.Layout.{be}
-use Rattle.item.specs.Write.{join, write}
+use Rattle.fields.specs.declared.writing.Fill.the-variants.{Takes, Not}
+use Rattle.fields.specs.Checked.{Checked, good, bad}
+use Rattle.octets.specs.Numbers.{be}
+use Rattle.fields.specs.Write.{join, write}
 use Rattle.item.specs.Table.{namesOf, types, find}
-use Rattle.item.specs.Item.{Vectors, vectors, filled, unwritten, outcome, writeItem}
-use Rattle.item.specs.Steps.{known as knownCase, put, written, Good, ends}
-use Rattle.item.proofs.Digits.{be-length}
-use Rattle.item.proofs.Writing.{not-takes, takes-not}
-use Rattle.item.proofs.Putting.{put-then}
+use Rattle.item.specs.Item.{Vectors, vectors, filled, writeItem}
+use Rattle.fields.specs.Effect.{unwritten, effect}
+use Rattle.item.specs.Steps.{known as knownCase}
+use Rattle.fields.specs.Inner.{written, Good, ends}
+use Rattle.octets.specs.Bytes.{put, putWithin}
+use Rattle.octets.proofs.Numbers.{be-length}
+use Rattle.fields.proofs.Filling.{not-takes, takes-not}
+use Rattle.octets.proofs.Putting.{put-then, put-in}
 use Rattle.item.proofs.writer.write.Statement.{statement}
 use Rattle.item.proofs.writer.write.Tie as tie
 
@@ -25,7 +28,7 @@ ended : (a : Checked (List ℕ)) (m : ℕ) → ends 2 a ≡ Takes m → Good a �
 ended (good b) m e = let z : 2 + length b ≡ m = cc in (tt, omega arith, refl)
 ended (bad x y) m e = not-takes x y m e
 
-stopped : (a : Checked (List ℕ)) (x y k : ℕ) (out : List ℕ) → ends 2 a ≡ Not x y → outcome out (join (be 2 k) a) ≡ unwritten x y out
+stopped : (a : Checked (List ℕ)) (x y k : ℕ) (out : List ℕ) → ends 2 a ≡ Not x y → effect out (join (be 2 k) a) ≡ unwritten x y out
 stopped (good b) x y k out e = takes-not x y (2 + length b) e
 stopped (bad p q) x y k out e = let z : p ≡ x = cc in let w : q ≡ y = cc in rw (z, w)
 
@@ -36,7 +39,7 @@ module _ (k : ℕ) (n : Numbers) (t : Vectors) (out : List ℕ) where
   unknown e = rw e
 
   module _ (c : Case) (is : find types k ≡ good c) where
-    whole : writeItem k n t out ≡ outcome out (join (be 2 k) (write (filled n t (namesOf c)) 2))
+    whole : writeItem k n t out ≡ effect out (join (be 2 k) (write (filled n t (namesOf c)) 2))
     unfolding writeItem
     whole = rw is
 
@@ -47,9 +50,9 @@ module _ (k : ℕ) (n : Numbers) (t : Vectors) (out : List ℕ) where
       b : List ℕ
       b = written (write (filled n t (namesOf c)) 2)
 
-      fits : writeItem k n t out ≡ outcome out (good (be 2 k ++ b))
+      fits : writeItem k n t out ≡ effect out (good (be 2 k ++ b))
       unfolding b
-      fits = whole ∙ ap (λ (a : Checked (List ℕ)). outcome out (join (be 2 k) a)) (ended (write (filled n t (namesOf c)) 2) m e .2)
+      fits = whole ∙ ap (λ (a : Checked (List ℕ)). effect out (join (be 2 k) a)) (ended (write (filled n t (namesOf c)) 2) m e .2)
 
       size : length (be 2 k ++ b) ≡ m
       unfolding b
@@ -58,7 +61,7 @@ module _ (k : ℕ) (n : Numbers) (t : Vectors) (out : List ℕ) where
       small : length out < m → writeItem k n t out ≡ unwritten 9 0 out
       small h = let l : length out < length (be 2 k ++ b) = omega (arith, size) in fits ∙ rw (lt-ltb _ _ l)
 
-      done : m ≤ length out → (out₁ out₂ : List ℕ) → out₁ ≡ put out 0 (be 2 k) → out₂ ≡ put out₁ 2 (written (write (filled n t (namesOf c)) 2)) → (good m ≡ writeItem k n t out .answer) × (out₂ ≡ writeItem k n t out .bytes)
+      done : m ≤ length out → (out₁ out₂ : List ℕ) → out₁ ≡ putWithin out 0 (be 2 k) → out₂ ≡ put out₁ 2 (written (write (filled n t (namesOf c)) 2)) → (good m ≡ writeItem k n t out .answer) × (out₂ ≡ writeItem k n t out .bytes)
       unfolding b
       done h out₁ out₂ p q =
           let z = size in
@@ -66,7 +69,7 @@ module _ (k : ℕ) (n : Numbers) (t : Vectors) (out : List ℕ) where
           let w : length (be 2 k) ≡ 2 = be-length 2 k in
           let s : put (put out 0 (be 2 k)) 2 b ≡ put out 0 (be 2 k ++ b) =
           ap (λ (j : ℕ). put (put out 0 (be 2 k)) j b) (sym (zero-add _ ∙ w)) ∙ put-then out (be 2 k) b 0 (omega arith) in
-          rw (fits, le-ltb _ _ l) (ap good (sym z), q ∙ ap (λ (o : List ℕ). put o 2 b) p ∙ s ∙ ap (λ (i : ℕ). (be 2 k ++ b) ++ drop i out) (zero-add (length (be 2 k ++ b))))
+          rw (fits, le-ltb _ _ l) (ap good (sym z), q ∙ ap (λ (o : List ℕ). put o 2 b) (p ∙ put-in out (be 2 k) 0 (omega (arith, length-append (be 2 k) b))) ∙ s ∙ ap (λ (i : ℕ). (be 2 k ++ b) ++ drop i out) (zero-add (length (be 2 k ++ b))))
 
 case-of-requires : tie.Need-case-of-requires
 case-of-requires c κs = search needs
@@ -104,17 +107,14 @@ returns c =
     let m = c .before .before .before .before in
     rw (small (E m .args .kind) (E m .args .numbers) (T (E m)) (E m .args .out .now) (C m) (is m) _ (sym (m .measure .ensures (E m .args .numbers)) ∙ c .before .before .m2 .given .1) (c .if1 .taken)) (refl, refl)
 
-put-uint-requires : tie.Need-put-uint-requires
-put-uint-requires c κs =
-    let m = c .before .before .before .before .before in
-    let z = ended (write (filled (E m .args .numbers) (T (E m)) (namesOf (C m))) 2) _ (sym (m .measure .ensures (E m .args .numbers)) ∙ c .before .before .before .m2 .given .1) .1 in
-    (omega (arith, c .before .if1 .left), omega arith, omega (arith, E m .fits .kind))
+put-number-requires : tie.Need-put-number-requires
+put-number-requires c κs = search needs
 
 put-all-requires : tie.Need-put-all-requires
 put-all-requires c κs =
     let m = c .before .before .before .before .before .before .before .before .before in
     let g = ended (write (filled (E m .args .numbers) (T (E m)) (namesOf (C m))) 2) _ (sym (m .measure .ensures (E m .args .numbers)) ∙ c .before .before .before .before .before .before .before .m2 .given .1) in
-    (g .0, omega (arith, g .1, c .before .before .before .put-uint .kept .0, c .before .before .before .before .before .if1 .left))
+    (g .0, omega (arith, g .1, c .before .before .before .put-number .kept .0, c .before .before .before .before .before .if1 .left))
 
 returns-2 : tie.Need-returns-2
 returns-2 c =
@@ -133,7 +133,7 @@ returns-4 : tie.Need-returns-4
 returns-4 c =
     let m = c .before .before .before .before .before .before .before .before .before .before .before .before in
     done (E m .args .kind) (E m .args .numbers) (T (E m)) (E m .args .out .now) (C m) (is m) _ (sym (m .measure .ensures (E m .args .numbers)) ∙ c .before .before .before .before .before .before .before .before .before .before .m2 .given .1) (c .before .before .before .before .before .before .before .before .if1 .left)
-    (c .before .before .before .before .before .before .put-uint .last .0) (c .before .before .put-all .last .0) (c .before .before .before .before .before .before .put-uint .ensures .1) (c .before .before .put-all .ensures)
+    (c .before .before .before .before .before .before .put-number .last .0) (c .before .before .put-all .last .0) (c .before .before .before .before .before .before .put-number .ensures) (c .before .before .put-all .ensures)
 
 pub write-spec : {M : Type 1} → statement M
 write-spec =
@@ -146,7 +146,7 @@ write-spec =
     enum-known-m
     enum-known-m-2
     returns
-    put-uint-requires
+    put-number-requires
     put-all-requires
     returns-2
     returns-3

@@ -1,0 +1,134 @@
+-- What a field that was found says. Assumes nothing.
+use mathlib.Core.Path.{_≡_, refl}
+use mathlib.Core.List.{List}
+use mathlib.Core.Bool.{Bool, true, false, cond}
+use Prim.Native.Nat.{ℕ, _+_, _-_, _≤_, _<_}
+use native.Mathlib.Omega.{arith}
+use lib.ListN.{length, take, drop, length-drop}
+use lib.Dec.{ltb}
+use lib.Seq.{length-take-le}
+use borrow.Author.Tests.{ltb-false}
+use Rattle.fields.specs.declared.layout.Part.{Part}
+use Rattle.fields.specs.declared.layout.Inner.{Inner}
+use Rattle.fields.specs.declared.layout.Field.{Field}
+use Rattle.fields.specs.declared.layout.Field.the-variants.{Uint, Vector}
+use Rattle.fields.specs.declared.layout.FieldRead.the-variants.{Found, Bad}
+use Rattle.fields.specs.declared.layout.Inside.{Inside}
+use Rattle.fields.specs.declared.layout.Inside.the-variants.{Fine, Wrong}
+use Rattle.octets.specs.Numbers.{widthOf, unbe}
+use Rattle.octets.specs.declared.number.Width.{Width}
+use Rattle.octets.specs.declared.number.Width.the-variants.{One, Two, Three, Four, Five, Six, Seven, Eight}
+use Rattle.fields.specs.Layout.{inside, numberAt, vectorAt, field, whole}
+use Rattle.fields.proofs.Places.{inside-place}
+
+bad-found : {A : Type 0} (x y : ℕ) (p : Part) → Bad x y ≡ Found p → A
+bad-found x y p e = absurd (let z : _≡_ {A = ℕ} 0 1 = cc in omega arith)
+
+same-part : (p q : Part) → Found p ≡ Found q → q ≡ p
+same-part p q e = cc
+
+-- a number that was found
+pub found-number : (w : ℕ) (r : List ℕ) (at : ℕ) (p : Part) → numberAt w r at ≡ Found p → (p ≡ record { start = at; len = w; value = unbe (take w r) }) × (w ≤ length r)
+unfolding numberAt
+found-number w r at p e = go (ltb (length r) w) refl e
+  where
+    go : (b : Bool) → ltb (length r) w ≡ b → cond b (Bad 2 at) (Found (record { start = at; len = w; value = unbe (take w r) })) ≡ Found p → (p ≡ record { start = at; len = w; value = unbe (take w r) }) × (w ≤ length r)
+    go true h e = bad-found 2 at p e
+    go false h e = (same-part _ _ e, ltb-false (length r) w h)
+
+-- a vector that was found
+pub record FoundVector (w least most : ℕ) (i : Inner) (r : List ℕ) (at : ℕ) (p : Part) : Type 0 where
+  pub is : p ≡ record { start = at + w; len = unbe (take w r); value = unbe (take w r) }
+  pub prefix : w ≤ length r
+  pub low : least ≤ unbe (take w r)
+  pub high : unbe (take w r) ≤ most
+  pub room : unbe (take w r) ≤ length r - w
+  pub fine : inside i (take (unbe (take w r)) (drop w r)) (at + w) ≡ Fine
+
+pub found-vector : (w least most : ℕ) (i : Inner) (r : List ℕ) (at : ℕ) (p : Part) → vectorAt w least most i r at ≡ Found p → FoundVector w least most i r at p
+unfolding vectorAt
+found-vector w least most i r at p e =
+    go (ltb (length r) w) (ltb n least) (ltb most n) (ltb (length r - w) n) (inside i (take n (drop w r)) (at + w)) refl refl refl refl refl e
+  where
+    n : ℕ
+    n = unbe (take w r)
+
+    go : (a b c d : Bool) (x : Inside) → ltb (length r) w ≡ a → ltb n least ≡ b → ltb most n ≡ c → ltb (length r - w) n ≡ d → inside i (take n (drop w r)) (at + w) ≡ x → cond a (Bad 2 at) (cond b (Bad 5 at) (cond c (Bad 5 at) (cond d (Bad 2 at) (whole x (record { start = at + w; len = n; value = n }))))) ≡ Found p → FoundVector w least most i r at p
+    go true b c d x ha hb hc hd hx e = bad-found 2 at p e
+    go false true c d x ha hb hc hd hx e = bad-found 5 at p e
+    go false false true d x ha hb hc hd hx e = bad-found 5 at p e
+    go false false false true x ha hb hc hd hx e = bad-found 2 at p e
+    go false false false false (Wrong y z) ha hb hc hd hx e = bad-found y z p e
+    go false false false false Fine ha hb hc hd hx e =
+        record { is = same-part _ _ e; prefix = ltb-false _ _ ha; low = ltb-false _ _ hb; high = ltb-false _ _ hc; room = ltb-false _ _ hd; fine = hx }
+
+-- a field that was found lies within the bytes
+pub found-within : (f : Field) (r : List ℕ) (at : ℕ) (p : Part) → field f r at ≡ Found p → p .start + p .len ≤ at + length r
+found-within (Uint w) r at p e = let h = found-number (widthOf w) r at p e in rw (h .0) (omega arith)
+found-within (Vector w least most i) r at p e =
+    let h = found-vector (widthOf w) least most i r at p e in rw (h .is) (omega (arith, h .room, h .prefix))
+
+-- and ends behind its start
+pub found-after : (f : Field) (r : List ℕ) (at : ℕ) (p : Part) → field f r at ≡ Found p → at ≤ p .start + p .len
+found-after (Uint w) r at p e = let h = found-number (widthOf w) r at p e in rw (h .0) (omega arith)
+found-after (Vector w least most i) r at p e = let h = found-vector (widthOf w) least most i r at p e in rw (h .is) (omega arith)
+
+-- no field is found past the end of the bytes
+width-some : (w : Width) → 1 ≤ widthOf w
+width-some One = omega arith
+width-some Two = omega arith
+width-some Three = omega arith
+width-some Four = omega arith
+width-some Five = omega arith
+width-some Six = omega arith
+width-some Seven = omega arith
+width-some Eight = omega arith
+
+some-bytes : (f : Field) (r : List ℕ) (at : ℕ) (p : Part) → field f r at ≡ Found p → 0 < length r
+some-bytes (Uint w) r at p e = let h = found-number (widthOf w) r at p e in omega (arith, h .1, width-some w)
+some-bytes (Vector w least most i) r at p e = let h = found-vector (widthOf w) least most i r at p e in omega (arith, h .prefix, width-some w)
+
+pub found-inside : (f : Field) (s : List ℕ) (at : ℕ) (p : Part) → field f (drop at s) at ≡ Found p → p .start + p .len ≤ length s
+found-inside f s at p e = omega (arith, found-within f (drop at s) at p e, some-bytes f (drop at s) at p e, length-drop at s)
+
+found-bad : {A : Type 0} (x y : ℕ) (p : Part) → Found p ≡ Bad x y → A
+found-bad x y p e = absurd (let z : _≡_ {A = ℕ} 0 1 = cc in omega arith)
+
+same-place : (x y p q : ℕ) → Bad x p ≡ Bad y q → q ≡ p
+same-place x y p q e = cc
+
+-- a field that was refused was refused at its start or behind it, within the bytes or at their end
+number-refused : (w : ℕ) (r : List ℕ) (at x y : ℕ) → numberAt w r at ≡ Bad x y → y ≡ at
+unfolding numberAt
+number-refused w r at x y e = go (ltb (length r) w) e
+  where
+    go : (b : Bool) → cond b (Bad 2 at) (Found (record { start = at; len = w; value = unbe (take w r) })) ≡ Bad x y → y ≡ at
+    go true e = same-place 2 x at y e
+    go false e = found-bad x y _ e
+
+vector-refused : (w least most : ℕ) (i : Inner) (r : List ℕ) (at x y : ℕ) → vectorAt w least most i r at ≡ Bad x y → (at ≤ y) × (y ≤ at + length r)
+unfolding vectorAt
+vector-refused w least most i r at x y e =
+    go (ltb (length r) w) (ltb n least) (ltb most n) (ltb (length r - w) n) (inside i (take n (drop w r)) (at + w)) refl refl refl e
+  where
+    n : ℕ
+    n = unbe (take w r)
+
+    start : (u : ℕ) → Bad u at ≡ Bad x y → (at ≤ y) × (y ≤ at + length r)
+    start u e = let z = same-place u x at y e in (omega arith, omega arith)
+
+    go : (a b c d : Bool) (z : Inside) → ltb (length r) w ≡ a → ltb (length r - w) n ≡ d → inside i (take n (drop w r)) (at + w) ≡ z → cond a (Bad 2 at) (cond b (Bad 5 at) (cond c (Bad 5 at) (cond d (Bad 2 at) (whole z (record { start = at + w; len = n; value = n }))))) ≡ Bad x y → (at ≤ y) × (y ≤ at + length r)
+    go true b c d z ha hd hz e = start 2 e
+    go false true c d z ha hd hz e = start 5 e
+    go false false true d z ha hd hz e = start 5 e
+    go false false false true z ha hd hz e = start 2 e
+    go false false false false Fine ha hd hz e = found-bad x y _ e
+    go false false false false (Wrong u v) ha hd hz e =
+        let l : length (take n (drop w r)) ≡ n = length-take-le n (drop w r) (rw (length-drop w r) (ltb-false _ _ hd)) in
+        let z = same-place u x v y e in
+        let p = inside-place i (take n (drop w r)) (at + w) u v hz in
+        (omega (arith, p .0), omega (arith, p .1, ltb-false (length r) w ha, ltb-false (length r - w) n hd))
+
+pub refused-at : (f : Field) (r : List ℕ) (at x y : ℕ) → field f r at ≡ Bad x y → (at ≤ y) × (y ≤ at + length r)
+refused-at (Uint w) r at x y e = let z = number-refused (widthOf w) r at x y e in (omega arith, omega arith)
+refused-at (Vector w least most i) r at x y e = vector-refused (widthOf w) least most i r at x y e

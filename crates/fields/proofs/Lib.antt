@@ -1,0 +1,16 @@
+pub mod Answers
+pub mod Lent
+pub mod Elements
+pub mod Places
+pub mod Founds
+pub mod Bodies
+pub mod Fills
+pub mod Vectors
+pub mod Rounds
+pub mod Within
+pub mod Numbered
+pub mod Resuming
+pub mod Filling
+pub mod Putting
+pub mod Stripping
+pub mod Hashing

@@ -1,0 +1,137 @@
+-- Vectors of any width, range and body, and numbers of any width: what is found is filled again, and what is filled is found. Assumes nothing.
+use mathlib.Core.Path.{_≡_, refl, ap, sym, subst, _∙_}
+use mathlib.Core.List.{List, _++_, append-assoc, [], _∷_}
+use mathlib.Core.Bool.{true}
+use Prim.Native.Nat.{ℕ, zero, suc, _+_, _-_, _^_, _≤_, _<_}
+use native.Mathlib.Omega.{arith}
+use lib.ListN.{getD, length, take, drop, length-append, length-drop}
+use lib.Seq.{take-at, drop-at, length-take-le, drop-drop, take-add, drop-append-add}
+use borrow.Author.Tests.{le-ltb}
+use Rattle.fields.specs.declared.layout.Part.{Part}
+use Rattle.fields.specs.declared.layout.Inner.{Inner}
+use Rattle.fields.specs.declared.layout.Field.{Field}
+use Rattle.fields.specs.declared.layout.Field.the-variants.{Uint, Vector}
+use Rattle.fields.specs.declared.layout.FieldRead.the-variants.{Found}
+use Rattle.fields.specs.declared.layout.Inside.the-variants.{Fine}
+use Rattle.fields.specs.Checked.{good}
+use Rattle.octets.specs.Bytes.{Bytes, no-bytes, one-byte}
+use Rattle.fields.specs.Layout.{bytesAt, inside, numberAt, vectorAt, field}
+use Rattle.octets.specs.declared.number.Width.{Width}
+use Rattle.octets.specs.Numbers.{widthOf, unbe, be}
+use Rattle.fields.specs.Inner.{part}
+use Rattle.fields.specs.Write.{wrap, unwrap, bodySize, wholes, vectorFilled, fill, opened, Value, uint, bytes}
+use Rattle.fields.specs.Claims.{ReadThenFilled, FilledThenRead, Typed, Kept}
+use Rattle.octets.proofs.Numbers.{be-length, unbe-be, be-unbe}
+use Rattle.fields.proofs.Founds.{found-number, found-vector}
+use Rattle.fields.proofs.Answers.{same-good}
+use Rattle.fields.proofs.Fills.{filled-vector}
+use Rattle.fields.proofs.Bodies.{body, value}
+
+-- a list of which every element is a byte
+pub all-bytes : (s : List ℕ) → ((i : ℕ) → getD s i 0 < 256) → Bytes s
+all-bytes [] h = no-bytes
+all-bytes (x ∷ s) h = one-byte (h 0) (all-bytes s (λ i. h (suc i)))
+
+pub bytes-take : (n : ℕ) {s : List ℕ} → Bytes s → Bytes (take n s)
+bytes-take zero b = no-bytes
+bytes-take (suc n) no-bytes = no-bytes
+bytes-take (suc n) (one-byte h b) = one-byte h (bytes-take n b)
+
+pub bytes-drop : (n : ℕ) {s : List ℕ} → Bytes s → Bytes (drop n s)
+bytes-drop zero b = b
+bytes-drop (suc n) no-bytes = no-bytes
+bytes-drop (suc n) (one-byte h b) = bytes-drop n b
+
+-- a vector that was found, filled with its value, is the same bytes
+pub vector-again : (w least most : ℕ) (i : Inner) (s : List ℕ) (at : ℕ) (p : Part) → Bytes s → vectorAt w least most i (drop at s) at ≡ Found p → vectorFilled w least most i (unwrap i (bytesAt s p)) at ≡ good (part s at (p .start + p .len))
+unfolding vectorFilled
+vector-again w least most i s at p bs e =
+    let h = found-vector w least most i (drop at s) at p e in
+    rw (h .is) (again (h .prefix) (h .low) (h .high) (h .room) (h .fine))
+  where
+    n : ℕ
+    n = unbe (take w (drop at s))
+
+    again : w ≤ length (drop at s) → least ≤ n → n ≤ most → n ≤ length (drop at s) - w → inside i (take n (drop w (drop at s))) (at + w) ≡ Fine → vectorFilled w least most i (unwrap i (take n (drop (at + w) s))) at ≡ good (part s at (at + w + n))
+    again pre low high room fin =
+        let d : drop w (drop at s) ≡ drop (at + w) s = drop-drop w at s in
+        let b : inside i (take n (drop (at + w) s)) (at + w) ≡ Fine = rw d at fin in
+        let o = body i (take n (drop (at + w) s)) (at + w) b in
+        let l : length (take n (drop (at + w) s)) ≡ n = length-take-le n (drop (at + w) s) (rw (← d, length-drop w (drop at s)) room) in
+        let m : bodySize i (length (unwrap i (take n (drop (at + w) s)))) ≡ n = o .size ∙ l in
+        let x : length (take w (drop at s)) ≡ w = length-take-le w (drop at s) pre in
+        let y : be w n ≡ take w (drop at s) = ap (λ (k : ℕ). be k n) (sym x) ∙ be-unbe (bytes-take w (bytes-drop at bs)) in
+        let z : w + n ≡ at + w + n - at = omega arith in
+        let t : take w (drop at s) ++ take n (drop (at + w) s) ≡ part s at (at + w + n) = rw (← z, take-add w n (drop at s), d) in
+        rw (m, le-ltb _ _ low, le-ltb _ _ high, o .round, o .again, b, l, y) (ap good t)
+
+-- a number that was found, written again, is the same bytes
+number-again : (w : ℕ) (s : List ℕ) (at : ℕ) (p : Part) → Bytes s → numberAt w (drop at s) at ≡ Found p → (be w (p .value) ≡ part s at (p .start + p .len)) × (at ≤ p .start + p .len)
+number-again w s at p bs e =
+    let h = found-number w (drop at s) at p e in
+    let l : length (take w (drop at s)) ≡ w = length-take-le w (drop at s) (h .1) in
+    let y : be w (unbe (take w (drop at s))) ≡ take w (drop at s) = ap (λ (k : ℕ). be k (unbe (take w (drop at s)))) (sym l) ∙ be-unbe (bytes-take w (bytes-drop at bs)) in
+    let z : at + w - at ≡ w = omega arith in
+    rw (h .0) (rw (y, z), omega arith)
+
+-- a field that was found, filled with what was found there, is the same bytes
+pub fill-again : ReadThenFilled
+unfolding opened
+fill-again (Uint w) s at p bs e = let h = number-again (widthOf w) s at p bs e in (ap good (h .0), h .1)
+fill-again (Vector w least most i) s at p bs e =
+    let h = found-vector (widthOf w) least most i (drop at s) at p e in
+    (vector-again (widthOf w) least most i s at p bs e, rw (h .is) (omega arith))
+
+-- a number that was written is found, and so is a vector that was filled
+kept-number : (w : Width) (n : ℕ) (front rest : List ℕ) → n < 256 ^ widthOf w → Kept (Uint w) (uint n) front (be (widthOf w) n) rest
+unfolding numberAt opened
+kept-number x n front rest h =
+    let w = widthOf x in
+    let l : length (be w n) ≡ w = be-length w n in
+    let room : w ≤ length (be w n ++ rest) = omega (arith, length-append (be w n) rest) in
+    let u : unbe (take w (be w n ++ rest)) ≡ n = ap unbe (take-at (be w n) rest w l) ∙ unbe-be w n h in
+    record {
+      place = record { start = length front; len = w; value = n };
+      found = rw (le-ltb _ _ room, u);
+      end = omega arith;
+      same = refl;
+    }
+
+module _ (width : Width) (least most : ℕ) (i : Inner) (v front rest : List ℕ) where
+  abbrev w : ℕ
+  w = widthOf width
+
+  kept-vector : most < 256 ^ w → least ≤ bodySize i (length v) → bodySize i (length v) ≤ most → wholes i (length v) ≡ true → inside i (wrap i v) (length front + w) ≡ Fine → Kept (Vector width least most i) (bytes v) front (be w (length (wrap i v)) ++ wrap i v) rest
+  unfolding vectorAt opened
+  kept-vector fit low high round fin =
+      let b = wrap i v in
+      let m = length (wrap i v) in
+      let r = (be w (length (wrap i v)) ++ wrap i v) ++ rest in
+      let o = value i v round in
+      let lw : length (be w m) ≡ w = be-length w m in
+      let a : r ≡ be w m ++ (b ++ rest) = append-assoc (be w m) b rest in
+      let t : take w r ≡ be w m = rw a (take-at (be w m) (b ++ rest) w lw) in
+      let d : drop w r ≡ b ++ rest = rw a (drop-at (be w m) (b ++ rest) w lw) in
+      let u : unbe (take w r) ≡ m = ap unbe t ∙ unbe-be w m (omega (arith, o .size)) in
+      let c : take m (drop w r) ≡ b = rw d (take-at b rest m refl) in
+      let l : length r ≡ w + m + length rest = length-append (be w m ++ b) rest ∙ omega (arith, length-append (be w m) b) in
+      let h₁ : w ≤ length r = omega arith in
+      let h₂ : least ≤ m = omega (arith, o .size) in
+      let h₃ : m ≤ most = omega (arith, o .size) in
+      let h₄ : m ≤ length r - w = omega arith in
+      record {
+        place = record { start = length front + w; len = m; value = m };
+        found = rw (u, le-ltb _ _ h₁, le-ltb _ _ h₂, le-ltb _ _ h₃, le-ltb _ _ h₄, c, fin);
+        end = omega (arith, length-append (be w m) b);
+        same = ap (λ (x : List ℕ). bytes (unwrap i (take m x))) (drop-append-add front r w) ∙ ap (λ (x : List ℕ). bytes (unwrap i x)) c ∙ ap bytes (o .again);
+      }
+
+pub kept : FilledThenRead
+kept (Uint w) (bytes v) front b rest typed e = absurd typed
+kept (Uint w) (uint n) front b rest typed e =
+    subst (λ (x : List ℕ). Kept (Uint w) (uint n) front x rest) (same-good (be (widthOf w) n) b e) (kept-number w n front rest typed)
+kept (Vector w least most i) (uint n) front b rest typed e = absurd typed
+kept (Vector w least most i) (bytes v) front b rest typed e =
+    let h = filled-vector (widthOf w) least most i v (length front) b e in
+    subst (λ (x : List ℕ). Kept (Vector w least most i) (bytes v) front x rest) (sym (h .is))
+    (kept-vector w least most i v front rest typed (h .low) (h .high) (h .round) (h .fine))

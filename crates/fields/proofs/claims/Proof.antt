@@ -1,0 +1,14 @@
+-- `fields::claims`: the theorems. Assumes nothing.
+use Rattle.fields.proofs.Vectors.{fill-again, kept}
+use Rattle.fields.proofs.Rounds.{write-again, read-back}
+use Rattle.fields.proofs.Within.{parts-within, place-within, found-before}
+use Rattle.fields.proofs.Hashing.{copied-is-joined, joined-is-copied, copy-keeps}
+use Rattle.fields.proofs.claims.Statement.{statement}
+use Rattle.fields.proofs.claims.Tie as tie
+
+returns : tie.Need-returns
+returns c =
+    (fill-again, (kept, (write-again, (read-back, (parts-within, (place-within, (found-before, (copied-is-joined, (joined-is-copied, copy-keeps)))))))))
+
+pub claims-spec : {M : Type 1} → statement M
+claims-spec = tie.close (tie.spec returns)

@@ -1,0 +1,114 @@
+-- What is claimed of fields and layouts: proved in proofs/. Assumes nothing: these are statements.
+use Prim.Native.Nat.{ℕ, _+_, _-_, _*_, _^_, _≤_, _<_}
+use mathlib.Core.Path.{_≡_}
+use mathlib.Core.List.{List, [], _∷_, _++_}
+use lib.ListN.{length, getD, take, drop}
+use Rattle.octets.specs.Bytes.{Bytes}
+use Rattle.octets.specs.Numbers.{widthOf}
+use Rattle.fields.specs.declared.layout.Part.{Part}
+use Rattle.fields.specs.declared.layout.Field.{Field}
+use Rattle.fields.specs.declared.layout.Field.the-variants.{Uint, Vector}
+use Rattle.fields.specs.declared.layout.FieldRead.the-variants.{Found}
+use Rattle.fields.specs.Checked.{good, bad}
+use Rattle.fields.specs.Layout.{field, read, found, bytesAt}
+use Rattle.fields.specs.Write.{Value, uint, bytes, fill, Filled, write, opened, values}
+use Rattle.fields.specs.Path.{encoded, joined, pathAt, copyPath}
+
+-- one field that was found, filled with what was found there, is the same bytes
+abbrev pub ReadThenFilled : Type 0
+ReadThenFilled =
+    (f : Field) (s : List ℕ) (at : ℕ) (p : Part) → Bytes s → field f (drop at s) at ≡ Found p
+    → (fill f (opened f p s) at ≡ good (take (p .start + p .len - at) (drop at s))) × (at ≤ p .start + p .len)
+
+-- a field and a value of its kind: a number that its bytes can hold; a prefix that can hold the vector's length
+abbrev pub Typed : Field → Value → Type 0
+Typed (Uint w) (uint n) = n < 256 ^ widthOf w
+Typed (Uint w) (bytes v) = ⊥
+Typed (Vector w least most i) (uint n) = ⊥
+Typed (Vector w least most i) (bytes v) = most < 256 ^ widthOf w
+
+-- one field that was filled is found, whatever stands before it and behind it, with its value
+pub record Kept (f : Field) (v : Value) (front b rest : List ℕ) : Type 0 where
+  pub place : Part
+  pub found : field f (b ++ rest) (length front) ≡ Found place
+  pub end : place .start + place .len ≡ length front + length b
+  pub same : opened f place (front ++ (b ++ rest)) ≡ v
+
+abbrev pub FilledThenRead : Type 0
+FilledThenRead =
+    (f : Field) (v : Value) (front b rest : List ℕ) → Typed f v → fill f v (length front) ≡ good b → Kept f v front b rest
+
+-- over any layout: what is read, written again, is the same bytes
+abbrev pub LayoutAgain : Type 0
+LayoutAgain =
+    (fs : List Field) (s : List ℕ) (at : ℕ) (ps : List Part) → Bytes s → at ≤ length s → read fs s at ≡ good ps
+    → write (values fs ps s) at ≡ good (drop at s)
+
+-- every field has a value of its kind
+pub data AllTyped : List Filled → Type 0 where
+  no-fields : AllTyped []
+  one-field : {f : Filled} {fs : List Filled} → Typed (f .field) (f .value) → AllTyped fs → AllTyped (f ∷ fs)
+
+abbrev pub layout : List Filled → List Field
+layout [] = []
+layout (f ∷ fs) = f .field ∷ layout fs
+
+-- over any layout: what is written reads back as the same values
+pub record ReadBack (fs : List Filled) (front b : List ℕ) : Type 0 where
+  pub parts : List Part
+  pub read : read (layout fs) (front ++ b) (length front) ≡ good parts
+  pub same : values (layout fs) parts (front ++ b) ≡ fs
+
+abbrev pub LayoutBack : Type 0
+LayoutBack = (fs : List Filled) (front b : List ℕ) → AllTyped fs → write fs (length front) ≡ good b → ReadBack fs front b
+
+abbrev pub Each : {A : Type 0} → (A → Type 0) → List A → Type 0
+Each P [] = Unit
+Each P (x ∷ xs) = P x × Each P xs
+
+-- over any layout: every field that is read, and the place of every refusal, lies within the bytes
+abbrev pub FieldsWithin : Type 0
+FieldsWithin =
+    (s : List ℕ) (fs : List Field) (at : ℕ) (ps : List Part) → at ≤ length s → read fs s at ≡ good ps → Each (λ p. p .start + p .len ≤ length s) ps
+
+abbrev pub RefusedWithin : Type 0
+RefusedWithin = (s : List ℕ) (fs : List Field) (at x y : ℕ) → at ≤ length s → read fs s at ≡ bad x y → y ≤ length s
+
+-- over any layout: what is read is what is found; where reading is refused, the fields found end at or before the refusal's place, and the field behind
+-- them is the one that was refused, or, with 3, there is none
+pub record Met (fs : List Field) (s : List ℕ) (at x y : ℕ) : Type 0 where
+  pub before : Each (λ p. p .start + p .len ≤ y) (found fs s at)
+  pub some : length (found fs s at) ≤ length fs
+  pub over : length (found fs s at) ≡ length fs → x ≡ 3
+
+abbrev pub FoundBefore : Type 0
+FoundBefore =
+    (fs : List Field) (s : List ℕ) (at : ℕ)
+    → ((ps : List Part) → read fs s at ≡ good ps → found fs s at ≡ ps)
+    × ((x y : ℕ) → read fs s at ≡ bad x y → Met fs s at x y)
+
+-- what is copied of a part is what stands there: hashes of 32 bytes, each with its length, and the same hashes joined
+pub record Joins (s : List ℕ) (p : Part) (w : List ℕ) : Type 0 where
+  pub within : p .start + p .len ≤ length s
+  pub hashes : List (List ℕ)
+  pub ours : Each (λ h. length h ≡ 32) hashes
+  pub item : bytesAt s p ≡ encoded hashes
+  pub path : w ≡ joined hashes
+  pub size : length w ≡ 32 * length hashes
+  pub each : (i : ℕ) → i < length hashes → take 32 (drop (32 * i) w) ≡ getD hashes i []
+
+abbrev pub CopiedIsJoined : Type 0
+CopiedIsJoined = (s : List ℕ) (p : Part) (w : List ℕ) → pathAt s p ≡ good w → Joins s p w
+
+-- and whatever part holds such hashes is copied
+abbrev pub JoinedIsCopied : Type 0
+JoinedIsCopied =
+    (s : List ℕ) (p : Part) (hs : List (List ℕ)) → p .start + p .len ≤ length s → Each (λ h. length h ≡ 32) hs → bytesAt s p ≡ encoded hs
+    → pathAt s p ≡ good (joined hs)
+
+-- a refused copy changes no byte; otherwise the bytes past those written stay
+abbrev pub CopyKeeps : Type 0
+CopyKeeps =
+    (s : List ℕ) (p : Part) (out : List ℕ)
+    → ((x at : ℕ) → copyPath s p out .answer ≡ bad x at → copyPath s p out .bytes ≡ out)
+    × ((m : ℕ) → copyPath s p out .answer ≡ good m → drop m (copyPath s p out .bytes) ≡ drop m out)

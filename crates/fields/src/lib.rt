@@ -1,0 +1,27 @@
+// Fields, the pieces that every format here is made of (RFC 9162, section 1.2; RFC 8446, section 3): big-endian numbers, and vectors with their length in
+// front and a range for it. A layout is a list of fields. A format is a table of layouts over this crate: reading and writing over any layout, the places
+// of refusals and both round trips are defined and proved here, once. Every function takes any bytes, any place and any range.
+//
+// layout: the kinds of field, and reading one    reading: all fields of a layout    writing: one field, the other way
+// path: a vector of node hashes, joined
+pub mod layout;
+pub mod path;
+pub mod reading;
+pub mod writing;
+
+ghost use Rattle.fields.specs.Claims.{ReadThenFilled, FilledThenRead, LayoutAgain, LayoutBack, FieldsWithin, RefusedWithin, FoundBefore};
+ghost use Rattle.fields.specs.Claims.{CopiedIsJoined, JoinedIsCopied, CopyKeeps};
+
+// What is proved of fields and layouts beside the functions' own promises. It does nothing.
+pub fn claims()
+    ensures read_then_filled { λ _. ⌜ ReadThenFilled ⌝ }
+    ensures filled_then_read { λ _. ⌜ FilledThenRead ⌝ }
+    ensures layout_again { λ _. ⌜ LayoutAgain ⌝ }
+    ensures layout_back { λ _. ⌜ LayoutBack ⌝ }
+    ensures fields_within { λ _. ⌜ FieldsWithin ⌝ }
+    ensures refused_within { λ _. ⌜ RefusedWithin ⌝ }
+    ensures found_before { λ _. ⌜ FoundBefore ⌝ }
+    ensures copied_is_joined { λ _. ⌜ CopiedIsJoined ⌝ }
+    ensures joined_is_copied { λ _. ⌜ JoinedIsCopied ⌝ }
+    ensures copy_keeps { λ _. ⌜ CopyKeeps ⌝ }
+{}
