@@ -7,7 +7,7 @@ use Rattle.hash.specs.Digest.{sha256}
 use Rattle.auditor.specs.Heads.{headsOf}
 use Rattle.auditor.specs.Dispute.{refused, disputeReport, pairDisputed}
 use Rattle.auditor.proofs.Asking.{refused-1, taken-0}
-use Rattle.auditor.proofs.Telling.{refused-tells}
+use Rattle.auditor.proofs.Reporting.{reports-refused}
 use Rattle.auditor.proofs.Disputing.{first-long, second-long, first-refused, followed, lengths}
 use Rattle.auditor.proofs.dispute.dispute.Statement.{statement}
 use Rattle.auditor.proofs.dispute.dispute.Tie as tie
@@ -16,21 +16,21 @@ returns : tie.Need-returns
 returns c =
     let a = c .before .before .before .before .before .before .before .before .before .before .args in
     let r = refused-1 (now (a .page1)) _ (c .before .before .leaf .ensures .0) (c .if1 .taken) in
-    refused-tells _ _ (now (a .pair)) (first-long sha256 (now (a .page1)) (a .place) (now (a .path1)) (a .size) (now (a .root)) (headsOf (now (a .heads))) (now (a .page2)) (now (a .path2)) (length (now (a .pair))) (r .0) ∙ ap refused (sym (r .1)))
+    reports-refused _ _ (now (a .pair)) (first-long sha256 (now (a .page1)) (a .place) (now (a .path1)) (a .size) (now (a .root)) (headsOf (now (a .heads))) (now (a .page2)) (now (a .path2)) (length (now (a .pair))) (r .0) ∙ ap refused (sym (r .1)))
 
 returns-2 : tie.Need-returns-2
 returns-2 c =
     let a = c .before .before .before .before .before .before .before .before .before .before .before .before .before .args in
     let f = taken-0 (now (a .page1)) _ _ (c .before .before .before .before .before .leaf .ensures .0) (c .before .before .before .if1 .left) (c .before .before .before .before .before .leaf .ensures .1) in
     let r = refused-1 (now (a .page2)) _ (c .before .before .leaf2 .ensures .0) (c .if2 .taken) in
-    refused-tells _ _ (now (a .pair)) (second-long sha256 (now (a .page1)) (a .place) (now (a .path1)) (a .size) (now (a .root)) (headsOf (now (a .heads))) (now (a .page2)) (now (a .path2)) (length (now (a .pair))) (f .0) (r .0) ∙ ap refused (sym (r .1)))
+    reports-refused _ _ (now (a .pair)) (second-long sha256 (now (a .page1)) (a .place) (now (a .path1)) (a .size) (now (a .root)) (headsOf (now (a .heads))) (now (a .page2)) (now (a .path2)) (length (now (a .pair))) (f .0) (r .0) ∙ ap refused (sym (r .1)))
 
 returns-3 : tie.Need-returns-3
 returns-3 c =
     let a = c .before .before .before .before .before .before .before .before .before .before .before .before .before .before .before .before .before .before .before .args in
     let f = taken-0 (now (a .page1)) _ _ (c .before .before .before .before .before .before .before .before .before .before .before .leaf .ensures .0) (c .before .before .before .before .before .before .before .before .before .if1 .left) (c .before .before .before .before .before .before .before .before .before .before .before .leaf .ensures .1) in
     let s = taken-0 (now (a .page2)) _ _ (c .before .before .before .before .before .before .before .before .leaf2 .ensures .0) (c .before .before .before .before .before .before .if2 .left) (c .before .before .before .before .before .before .before .before .leaf2 .ensures .1) in
-    refused-tells _ _ (now (a .pair)) (first-refused sha256 (now (a .page1)) (a .place) (now (a .path1)) (a .size) (now (a .root)) (headsOf (now (a .heads))) (now (a .page2)) (now (a .path2)) (length (now (a .pair))) (f .0) (s .0) _ (f .1) _ (c .before .inclusion-verdict .ensures) (c .if3 .taken))
+    reports-refused _ _ (now (a .pair)) (first-refused sha256 (now (a .page1)) (a .place) (now (a .path1)) (a .size) (now (a .root)) (headsOf (now (a .heads))) (now (a .page2)) (now (a .path2)) (length (now (a .pair))) (f .0) (s .0) _ (f .1) _ (c .before .inclusion-verdict .ensures) (c .if3 .taken))
 
 work-requires : tie.Need-work-requires
 work-requires c κs =

@@ -3,7 +3,7 @@ use mathlib.Core.Path.{_≡_, sym, ap, _∙_}
 use denote.Ref.{now}
 use borrow.Author.Needs.{needs}
 use Rattle.carry.specs.Compare.{comparing}
-use Rattle.auditor.proofs.Telling.{compared-refused, compared-collision, compared-same, compared-pages}
+use Rattle.auditor.proofs.Reporting.{compared-refused, compared-collision, compared-same, compared-pages}
 use Rattle.auditor.proofs.dispute.settle.Statement.{statement}
 use Rattle.auditor.proofs.dispute.settle.Tie as tie
 

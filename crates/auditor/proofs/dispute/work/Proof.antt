@@ -13,7 +13,7 @@ use Rattle.auditor.specs.Heads.{sizeOf, rootOf, pathOf, headsOf}
 use Rattle.auditor.specs.Dispute.{onward, longestPath, follow, disputeReport, pairDisputed}
 use Rattle.octets.proofs.Putting.{over-start}
 use Rattle.auditor.proofs.Reading.{head-whole}
-use Rattle.auditor.proofs.Telling.{refused-tells, carried-refused, carried-collision, carried-path}
+use Rattle.auditor.proofs.Reporting.{reports-refused, carried-refused, carried-collision, carried-path}
 use Rattle.auditor.proofs.Following.{Left, rest-is, left-end, left-truncated, left-then}
 use Rattle.auditor.proofs.dispute.work.Statement.{statement}
 use Rattle.auditor.proofs.dispute.work.Tie as tie
@@ -46,7 +46,7 @@ returns c =
     let a = c .before .before .before .before .before .before .before .before .before .before .before .before .before .before .before .before .before .before .before .args in
     let L = c .before .before .before .before .loop in
     let e = sym (L .inv .6) ∙ left-truncated sha256 (a .place) (now (a .page1)) (now (a .page2)) (now (a .path2)) (now (a .heads)) (length (now (a .pair))) (L .at) (L .m) (L .held) (take (L .len) (L .path)) _ (rest-is (now (a .heads)) (L .at)) _ (c .before .head-bytes .ensures) (c .before .before .before .loop-test .taken) (c .if1 .taken) in
-    let t = refused-tells _ 2 (now (a .pair)) e in
+    let t = reports-refused _ 2 (now (a .pair)) e in
     (t .0, L .inv .5 ∙ t .1)
 
 array-share-prefix-path : tie.Need-array-share-prefix-path Inv-loop μ-loop
@@ -80,7 +80,7 @@ returns-2 c =
     let L = c .before .before .before .before .before .before .before .before .before .before .before .before .before .before .before .before .before .loop in
     let d = c .before .before .before .before .before .before .over-head .ensures in
     let q = carried-refused _ _ _ (ap carrying (sym (c .before .carried .given .1)) ∙ d .0) in
-    let t = refused-tells _ _ (now (c .before .before .before .before .before .before .before .before .before .before .before .before .before .before .before .before .before .before .before .before .before .before .before .before .before .before .before .before .before .before .before .before .args .pair)) (turn (c .before .before .before .before .before .before) ∙ q .0) in
+    let t = reports-refused _ _ (now (c .before .before .before .before .before .before .before .before .before .before .before .before .before .before .before .before .before .before .before .before .before .before .before .before .before .before .before .before .before .before .before .before .args .pair)) (turn (c .before .before .before .before .before .before) ∙ q .0) in
     (t .0, d .1 .1 ∙ q .1 (L .pair) ∙ L .inv .5 ∙ t .1)
 
 returns-3 : tie.Need-returns-3 Inv-loop μ-loop

@@ -14,7 +14,7 @@ use Rattle.tree.specs.Count.{inclusionCount, consistencyCount}
 use Rattle.tree.specs.Joined.{joined}
 use Rattle.carry.specs.Inner.{pathAs}
 use Rattle.carry.proofs.Pairing.{difference-apart, difference-alike}
-use Rattle.carry.proofs.Carrying.{both, one-refused, fit-of, agree-of, accepted-by, path-short, pair-short, long, tells-refused, tells-apart, tells-path, difference-walked, path-walked, pieces, counted-pieces, new-path}
+use Rattle.carry.proofs.Carrying.{both, one-refused, fit-of, agree-of, accepted-by, path-short, pair-short, long, reports-refused, reports-apart, reports-path, difference-walked, path-walked, pieces, counted-pieces, new-path}
 use Rattle.carry.proofs.forward.carry.Statement.{statement}
 use Rattle.carry.proofs.forward.carry.Tie as tie
 
@@ -27,7 +27,7 @@ refusal-requires c κs = search needs
 returns : tie.Need-returns
 returns c =
     let a = c .before .before .before .before .before .before .before .before .before .before .args in
-    let t = tells-refused (now (a .out)) (now (a .pair)) (one-refused sha256 (now (a .leaf)) (a .place) (a .m) (a .n) (now (a .old)) (now (a .new)) (now (a .path)) (now (a .proof)) (length (now (a .out))) (length (now (a .pair))) (λ v w. false≢true (sym (not-true (c .before .before .fits2 .result) (c .before .if1 .taken)) ∙ c .before .before .fits2 .ensures .1 (fit-of sha256 (now (a .leaf)) (a .place) (a .m) (a .n) (now (a .old)) (now (a .new)) (now (a .path)) (now (a .proof)) v w)))) in
+    let t = reports-refused (now (a .out)) (now (a .pair)) (one-refused sha256 (now (a .leaf)) (a .place) (a .m) (a .n) (now (a .old)) (now (a .new)) (now (a .path)) (now (a .proof)) (length (now (a .out))) (length (now (a .pair))) (λ v w. false≢true (sym (not-true (c .before .before .fits2 .result) (c .before .if1 .taken)) ∙ c .before .before .fits2 .ensures .1 (fit-of sha256 (now (a .leaf)) (a .place) (a .m) (a .n) (now (a .old)) (now (a .new)) (now (a .path)) (now (a .proof)) v w)))) in
     (c .refusal .ensures ∙ t .0, t .1)
 
 node-at-requires : tie.Need-node-at-requires
@@ -55,7 +55,7 @@ returns-2 : tie.Need-returns-2
 returns-2 c =
     let a = c .before .before .before .before .before .before .before .before .before .before .before .before .before .before .before .before .before .before .before .args in
     let fit = c .before .before .before .before .before .before .before .before .before .before .before .fits2 .ensures .0 (not-false (c .before .before .before .before .before .before .before .before .before .before .before .fits2 .result) (c .before .before .before .before .before .before .before .before .before .before .if1 .left)) in
-    let t = tells-refused (now (a .out)) (now (a .pair)) (one-refused sha256 (now (a .leaf)) (a .place) (a .m) (a .n) (now (a .old)) (now (a .new)) (now (a .path)) (now (a .proof)) (length (now (a .out))) (length (now (a .pair))) (λ v w. false≢true (sym (not-true (c .before .before .agree .result) (c .before .if2 .taken)) ∙ c .before .before .agree .ensures .1 (agree-of sha256 (now (a .leaf)) (a .place) (a .m) (a .n) (now (a .old)) (now (a .new)) (now (a .path)) (now (a .proof)) fit (c .before .before .before .before .before .before .before .before .before .node-at .ensures) (c .before .before .before .before .before .before .before .before .node-at2 .ensures) (c .before .before .before .before .before .before .before .walk .ensures .0) (c .before .before .before .before .before .before .before .walk .ensures .1 .0) (c .before .before .before .before .before .before .before .walk .ensures .1 .1 .0) v w)))) in
+    let t = reports-refused (now (a .out)) (now (a .pair)) (one-refused sha256 (now (a .leaf)) (a .place) (a .m) (a .n) (now (a .old)) (now (a .new)) (now (a .path)) (now (a .proof)) (length (now (a .out))) (length (now (a .pair))) (λ v w. false≢true (sym (not-true (c .before .before .agree .result) (c .before .if2 .taken)) ∙ c .before .before .agree .ensures .1 (agree-of sha256 (now (a .leaf)) (a .place) (a .m) (a .n) (now (a .old)) (now (a .new)) (now (a .path)) (now (a .proof)) fit (c .before .before .before .before .before .before .before .before .before .node-at .ensures) (c .before .before .before .before .before .before .before .before .node-at2 .ensures) (c .before .before .before .before .before .before .before .walk .ensures .0) (c .before .before .before .before .before .before .before .walk .ensures .1 .0) (c .before .before .before .before .before .before .before .walk .ensures .1 .1 .0) v w)))) in
     (c .refusal2 .ensures ∙ t .0, t .1)
 
 add-if3 : tie.Need-add-if3
@@ -100,7 +100,7 @@ returns-3 c =
     let p = path-walked sha256 (now (a .leaf)) (a .place) (a .m) (a .n) (now (a .old)) (now (a .path)) (now (a .proof)) t (c .before .before .before .before .before .before .before .before .before .node-at .ensures) (c .before .before .before .before .before .before .before .before .node-at2 .ensures) (s .1 .1 .1 .1 .0) in
     let number : w .low + w .hashed + (q - w .high) ≡ inclusionCount (a .place) (a .n) =
     sym (counted-pieces (w .low) (w .hashed) (w .sibling .bytes) (w .high) (now (a .path)) (now (a .proof)) q len (o .2)) ∙ ap length p ∙ new-path sha256 sha256-length (now (a .leaf)) (a .place) (a .m) (a .n) (now (a .old)) (now (a .new)) (now (a .path)) (now (a .proof)) (y .0) (y .1) .1 in
-    tells-refused (now (a .out)) (now (a .pair)) (path-short sha256 (now (a .leaf)) (a .place) (a .m) (a .n) (now (a .old)) (now (a .new)) (now (a .path)) (now (a .proof)) (length (now (a .out))) (length (now (a .pair))) (sym (y .0)) refl (sym (y .1)) refl (omega (arith, number, c .if3 .taken)))
+    reports-refused (now (a .out)) (now (a .pair)) (path-short sha256 (now (a .leaf)) (a .place) (a .m) (a .n) (now (a .old)) (now (a .new)) (now (a .path)) (now (a .proof)) (length (now (a .out))) (length (now (a .pair))) (sym (y .0)) refl (sym (y .1)) refl (omega (arith, number, c .if3 .taken)))
 
 returns-4 : tie.Need-returns-4
 unfolding pathAs
@@ -117,7 +117,7 @@ returns-4 c =
     let p = path-walked sha256 (now (a .leaf)) (a .place) (a .m) (a .n) (now (a .old)) (now (a .path)) (now (a .proof)) t (c .before .before .before .before .before .before .before .before .before .before .node-at .ensures) (c .before .before .before .before .before .before .before .before .before .node-at2 .ensures) (s .1 .1 .1 .1 .0) in
     let number : w .low + w .hashed + (q - w .high) ≡ inclusionCount (a .place) (a .n) =
     sym (counted-pieces (w .low) (w .hashed) (w .sibling .bytes) (w .high) (now (a .path)) (now (a .proof)) q len (o .2)) ∙ ap length p ∙ new-path sha256 sha256-length (now (a .leaf)) (a .place) (a .m) (a .n) (now (a .old)) (now (a .new)) (now (a .path)) (now (a .proof)) (y .0) (y .1) .1 in
-    tells-refused (now (a .out)) (now (a .pair)) (pair-short sha256 (now (a .leaf)) (a .place) (a .m) (a .n) (now (a .old)) (now (a .new)) (now (a .path)) (now (a .proof)) (length (now (a .out))) (length (now (a .pair))) (sym (y .0)) refl (sym (y .1)) refl (omega (arith, number, c .before .if3 .left)) (c .if4 .taken))
+    reports-refused (now (a .out)) (now (a .pair)) (pair-short sha256 (now (a .leaf)) (a .place) (a .m) (a .n) (now (a .old)) (now (a .new)) (now (a .path)) (now (a .proof)) (length (now (a .out))) (length (now (a .pair))) (sym (y .0)) refl (sym (y .1)) refl (omega (arith, number, c .before .if3 .left)) (c .if4 .taken))
 
 put-pair-requires : tie.Need-put-pair-requires
 put-pair-requires c κs = omega (arith, c .before .before .before .before .before .before .if4 .left)
@@ -142,7 +142,7 @@ returns-5 c =
     sym (counted-pieces (w .low) (w .hashed) (w .sibling .bytes) (w .high) (now (a .path)) (now (a .proof)) q len (o .2)) ∙ ap length p ∙ new-path sha256 sha256-length (now (a .leaf)) (a .place) (a .m) (a .n) (now (a .old)) (now (a .new)) (now (a .path)) (now (a .proof)) (y .0) (y .1) .1 in
     let g = long sha256 (now (a .leaf)) (a .place) (a .m) (a .n) (now (a .old)) (now (a .new)) (now (a .path)) (now (a .proof)) (length (now (a .out))) (length (now (a .pair))) (sym (y .0)) refl (sym (y .1)) refl (omega (arith, number, c .before .before .before .before .before .before .before .before .before .before .if3 .left)) (c .before .before .before .before .before .before .before .before .before .if4 .left) in
     let d = difference-walked sha256 (now (a .leaf)) (a .place) (a .m) (a .n) (now (a .old)) (now (a .path)) (now (a .proof)) t (c .before .before .before .before .before .before .before .before .before .before .before .before .before .before .before .before .before .before .before .node-at .ensures) (c .before .before .before .before .before .before .before .before .before .before .before .before .before .before .before .before .before .before .node-at2 .ensures) (s .1 .1 .1 .0) in
-    tells-apart _ (now (a .out)) (now (a .pair)) g (sym d ∙ difference-apart (w .recomputed) (c .before .before .before .before .before .before .before .before .if5 .taken)) (c .before .before .put-pair .ensures)
+    reports-apart _ (now (a .out)) (now (a .pair)) g (sym d ∙ difference-apart (w .recomputed) (c .before .before .before .before .before .before .before .before .if5 .taken)) (c .before .before .put-pair .ensures)
 
 put-path-requires : tie.Need-put-path-requires
 unfolding pathAs
@@ -185,7 +185,7 @@ returns-6 c =
     let d = difference-walked sha256 (now (a .leaf)) (a .place) (a .m) (a .n) (now (a .old)) (now (a .path)) (now (a .proof)) t (c .before .before .before .before .before .before .before .before .before .before .before .before .before .before .before .before .node-at .ensures) (c .before .before .before .before .before .before .before .before .before .before .before .before .before .before .before .node-at2 .ensures) (s .1 .1 .1 .0) in
     let u = take (32 * w .low) (now (a .path)) ++ (take (32 * w .hashed) (w .sibling .bytes) ++ drop (32 * w .high) (now (a .proof))) in
     let b = ap joined (sym p) ∙ pieces (w .low) (w .hashed) (w .sibling .bytes) (w .high) (now (a .path)) (now (a .proof)) q len (o .2) in
-    tells-path u (now (a .out)) (now (a .pair)) g (sym d ∙ difference-alike (w .recomputed) (c .before .before .before .before .before .if5 .left)) b (c .before .before .put-path .ensures .0) (c .before .before .put-path .ensures .1)
+    reports-path u (now (a .out)) (now (a .pair)) g (sym d ∙ difference-alike (w .recomputed) (c .before .before .before .before .before .if5 .left)) b (c .before .before .put-path .ensures .0) (c .before .before .put-path .ensures .1)
 
 pub carry-spec : {M : Type 1} → statement M
 carry-spec =
