@@ -23,14 +23,16 @@ returns-3 c = let a = c .before .before .before .before .before .before .args in
 returns-4 : tie.Need-returns-4
 unfolding over
 returns-4 c =
-    let a = c .before .before .before .before .before .before .before .before .before .before .before .before .before .before .before .args in
+    let i = c .before .before .before .before .before .before .before .before .before in
+    let a = i .before .before .before .before .before .before .args in
     let l = now (a .left) in
     let r = now (a .right) in
     let o = now (a .out) in
-    let b = c .before .before .before .before .before .before .node .result .bytes in
-    let e : b ≡ nodeHash l r = c .before .before .before .before .before .before .node .ensures ∙ ap₂ nodeHash (c .before .before .before .before .before .before .before .before .digest-from .ensures) (c .before .before .before .before .before .before .before .digest-from2 .ensures) in
+    let h = c .before .before .before .before .before .before in
+    let b = h .node .result .bytes in
+    let e : b ≡ nodeHash l r = h .node .ensures ∙ ap₂ nodeHash (h .before .before .digest-from .ensures) (h .before .digest-from2 .ensures) in
     let n : length b ≡ 32 = ap length e ∙ sha256-length _ in
-    let d = node-done l r o (c .before .before .before .before .before .before .before .before .before .before .before .if1 .left) (c .before .before .before .before .before .before .before .before .before .before .if2 .left) (c .before .before .before .before .before .before .before .before .before .if3 .left) in
+    let d = node-done l r o (i .before .before .if1 .left) (i .before .if2 .left) (i .if3 .left) in
     (d .0, c .before .before .put .ensures ∙ put-over o b (omega (arith, n)) ∙ rw (n, e) (d .1))
 
 pub mta-node-spec : {M : Type 1} → statement M
