@@ -10,10 +10,10 @@ use std::path::{Path, PathBuf};
 use translate::{Crate, Done};
 
 /// Held against the reference, each after those that it uses.
-const COMPARED: [&str; 4] = ["tree", "growing", "carry", "auditor"];
+const COMPARED: [&str; 5] = ["octets", "tree", "growing", "carry", "auditor"];
 
-/// Written here: a weak hash, and the kit's comparison of bytes.
-const GIVEN: [&str; 2] = ["hash", "check"];
+/// Written here: a weak hash.
+const GIVEN: [&str; 1] = ["hash"];
 
 /// Not in every state of the repository: compared, and edited, where it is there.
 const JOURNAL: &str = "auditor/src/journal.rt";
@@ -130,6 +130,7 @@ fn variant(
         let mut own = Done::default();
         let text = krate.module(&folder.join("lib.rt"), &folder, one, true, &mut own)?;
         every_file_is_taken(&folder, own.files)?;
+        own.pass_on();
         out += &format!("pub mod {one} {{\n{text}}}\n");
         done.files += own.files;
         done.functions += own.functions;

@@ -65,11 +65,11 @@ listed r s es (asks κs place page path o p rest) =
     (c ∷ w .0, one-more r s c o (w .0) _ p (w .1))
 
 -- whatever the dispute is given
-pub tells :
+pub reports :
     (κs : Lfts 7) (place size : ℕ) (page₁ path₁ root between page₂ path₂ pair pair′ : RefT (List ℕ)) (d : Settled) →
     dispute-reads.Learnt κs (page₁, (place, (path₁, (size, (root, (between, (page₂, (path₂, (pair, tt))))))))) d (page₁, (place, (path₁, (size, (root, (between, (page₂, (path₂, (pair′, tt))))))))) →
     Sound (page₁ .now) (page₂ .now) (settling d) (pair′ .now)
-tells κs place size page₁ path₁ root between page₂ path₂ pair pair′ d p =
+reports κs place size page₁ path₁ root between page₂ path₂ pair pair′ d p =
     rw (p .0, p .1) (whatever-given (page₁ .now) place (path₁ .now) size (root .now) (between .now) (page₂ .now) (path₂ .now) (pair .now))
 
 -- over every run from the empty record
@@ -171,7 +171,7 @@ every-kept start held held₂ s before between place page₁ path₁ page₂ pat
 ref : List ℕ → RefT (List ℕ)
 ref l = record { ptr = (0, 0); name = 0; now = l }
 
--- the code's answer that tells this
+-- the code's answer that reports this
 said : Answer Ruling → Settled
 said (done samePage) = Same
 said (done ofNodes) = Nodes
@@ -236,7 +236,7 @@ unfolding ref
 whatever-claimed page₁ place path₁ size root between page₂ path₂ pair =
     let d = dispute sha256 page₁ place path₁ size root (headsOf between) page₂ path₂ (length pair) in
     rw (said-is (disputeReport d)) at
-    (tells seven place size (ref page₁) (ref path₁) (ref root) (ref between) (ref page₂) (ref path₂) (ref pair) (ref (pairDisputed d pair)) (said (disputeReport d)) (said-is (disputeReport d), refl))
+    (reports seven place size (ref page₁) (ref path₁) (ref root) (ref between) (ref page₂) (ref path₂) (ref pair) (ref (pairDisputed d pair)) (said (disputeReport d)) (said-is (disputeReport d), refl))
 
 pub demand3-claimed : Demand3
 unfolding ref

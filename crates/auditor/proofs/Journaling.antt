@@ -54,9 +54,9 @@ module _ (room used size : ℕ) (root path : List ℕ) where
         fits l = let k = head-length size root path root-32 in asked ∙ long (room - used) (joinedHeads (then size root path end)) (omega arith)
 
 -- a refusal says its number, and the buffer keeps its bytes
-pub refused-tells : (used : ℕ) (o : Outcome) (n : ℕ) (b : List ℕ) → o ≡ refused n → (appending (Refused n) ≡ appendReport used o) × (b ≡ journalAfter used o b)
+pub reports-refused : (used : ℕ) (o : Outcome) (n : ℕ) (b : List ℕ) → o ≡ refused n → (appending (Refused n) ≡ appendReport used o) × (b ≡ journalAfter used o b)
 unfolding appendReport journalAfter
-refused-tells used o n b e = rw e (refl, refl)
+reports-refused used o n b e = rw e (refl, refl)
 
 -- the four pieces of a head, one behind the other
 module _ (size used : ℕ) (root path : List ℕ) (root-32 : length root ≡ 32) where

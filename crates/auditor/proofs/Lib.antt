@@ -4,7 +4,7 @@ pub mod Offering
 pub mod Asking
 pub mod Reading
 pub mod Journaling
-pub mod Telling
+pub mod Reporting
 pub mod Following
 pub mod Disputing
 pub mod Holding

@@ -137,15 +137,15 @@ module _ (H : List ℕ → List ℕ) (id₀ : List ℕ) (time₀ size₀ : ℕ) 
 
 -- the answer of an offer with its number n
 module _ (r : Record) (id : List ℕ) (time size : ℕ) (root path : List ℕ) (n : ℕ) (e : n ≡ offerNumber sha256 (view r) id time size root path) where
-  pub tells-refused : (n ≡ 0 → ⊥) → record { number = n; after = r } ≡ offered r id time size root path
+  pub reports-refused : (n ≡ 0 → ⊥) → record { number = n; after = r } ≡ offered r id time size root path
   unfolding offered keptRecord
-  tells-refused z = go n z e
+  reports-refused z = go n z e
     where
       go : (m : ℕ) → (m ≡ 0 → ⊥) → m ≡ offerNumber sha256 (view r) id time size root path → record { number = m; after = r } ≡ offered r id time size root path
       go zero z f = absurd (z refl)
       go (suc m) z f = ap (λ (k : ℕ). record { number = k; after = keptRecord r id time size root k }) f
 
-  pub tells-accepted : (a b : List ℕ) (l : ℕ) → n ≡ 0 → a ≡ over id (replicate 127 0) → b ≡ root → l ≡ length id →
+  pub reports-accepted : (a b : List ℕ) (l : ℕ) → n ≡ 0 → a ≡ over id (replicate 127 0) → b ≡ root → l ≡ length id →
       record { number = 0; after = record { held = true; id = a; idlen = l; timestamp = time; size = size; root = b } } ≡ offered r id time size root path
   unfolding offered keptRecord holding
-  tells-accepted a b l z f g h = rw (f, g, h) (ap (λ (k : ℕ). record { number = k; after = keptRecord r id time size root k }) (sym z ∙ e))
+  reports-accepted a b l z f g h = rw (f, g, h) (ap (λ (k : ℕ). record { number = k; after = keptRecord r id time size root k }) (sym z ∙ e))

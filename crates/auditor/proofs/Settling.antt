@@ -225,17 +225,17 @@ module _ (H : List ℕ → List ℕ) where
 -- ---- in the code's terms
 
 -- the strings are the start of the pair buffer
-tells : (page₁ page₂ : List ℕ) (d : Finding) (pair : List ℕ) → Owed sha256 page₁ page₂ d → Sound page₁ page₂ (disputeReport d) (pairDisputed d pair)
+report-sound : (page₁ page₂ : List ℕ) (d : Finding) (pair : List ℕ) → Owed sha256 page₁ page₂ d → Sound page₁ page₂ (disputeReport d) (pairDisputed d pair)
 unfolding Owed Sound disputeReport pairDisputed over
-tells page₁ page₂ (refused n) pair w = tt
-tells page₁ page₂ alike pair w = w
-tells page₁ page₂ (nodes s t) pair w =
+report-sound page₁ page₂ (refused n) pair w = tt
+report-sound page₁ page₂ alike pair w = w
+report-sound page₁ page₂ (nodes s t) pair w =
     let z = drop (length (s ++ t)) pair in
     let g : (s ++ t) ++ z ≡ s ++ (t ++ z) = append-assoc s t z in
     let a : take 65 ((s ++ t) ++ z) ≡ s = ap (take 65) g ∙ take-at s (t ++ z) 65 (w .first-65) in
     let b : take 65 (drop 65 ((s ++ t) ++ z)) ≡ t = ap (λ (x : List ℕ). take 65 (drop 65 x)) g ∙ ap (take 65) (drop-at s (t ++ z) 65 (w .first-65)) ∙ take-at t z 65 (w .second-65) in
     rw (a, b) (w .collision)
-tells page₁ page₂ pages pair w = w
+report-sound page₁ page₂ pages pair w = w
 
 report-refused : (d : Finding) (n : ℕ) → disputeReport d ≡ Answer.refused n → d ≡ refused n
 unfolding disputeReport
@@ -246,7 +246,7 @@ report-refused pages n e = absurd (let y : _≡_ {A = ℕ} 0 1 = cc in omega ari
 
 pub whatever-given : WhateverGiven
 whatever-given page₁ place path₁ size root between page₂ path₂ pair =
-    tells page₁ page₂ _ pair (whatever sha256 sha256-length page₁ place path₁ size root (headsOf between) page₂ path₂ (length pair))
+    report-sound page₁ page₂ _ pair (whatever sha256 sha256-length page₁ place path₁ size root (headsOf between) page₂ path₂ (length pair))
 
 settles : (page₁ : List ℕ) (place : ℕ) (path₁ : List ℕ) (size : ℕ) (root : List ℕ) (hs : Heads) (page₂ path₂ pair : List ℕ) → Fits hs →
     ((n : ℕ) → dispute sha256 page₁ place path₁ size root hs page₂ path₂ (length pair) ≡ refused n → ⊥) →
@@ -254,7 +254,7 @@ settles : (page₁ : List ℕ) (place : ℕ) (path₁ : List ℕ) (size : ℕ) (
 unfolding Settles
 settles page₁ place path₁ size root hs page₂ path₂ pair fit passed =
     rw (read-back hs fit)
-    (tells page₁ page₂ _ pair (whatever sha256 sha256-length page₁ place path₁ size root hs page₂ path₂ (length pair)), λ n e. passed n (report-refused _ n e))
+    (report-sound page₁ page₂ _ pair (whatever sha256 sha256-length page₁ place path₁ size root hs page₂ path₂ (length pair)), λ n e. passed n (report-refused _ n e))
 
 pub demand3 : Demand3
 demand3 calls before between rest place page₁ path₁ page₂ path₂ pair e long =

@@ -81,7 +81,7 @@ HonestLog =
     (id : List ℕ) (pages : List (List ℕ)) (calls : List Call) → 2 ≤ length id → length id ≤ 127 → length pages ≤ largestSize →
     ((i : ℕ) → length (getD pages i []) ≤ mostItem) → Served id pages 0 0 calls → HonestFor id pages calls
 
--- its head over the first n pages is what a growing tree tells that took them, however they were cut into calls
+-- its head over the first n pages is that of a growing tree that took them, however they were cut into calls
 abbrev pub GrownHeads : Type 0
 GrownHeads =
     (id : List ℕ) (pages : List (List ℕ)) (calls : List growing.Call) (n : ℕ) → length pages ≤ largestSize → n ≤ length pages →

@@ -13,7 +13,7 @@ use Rattle.auditor.specs.Dispute.{Ruling, dispute, disputeReport, pairDi
 use Rattle.auditor.specs.Calls.{Call, ask, Entry, answered, answers, heads}
 use Rattle.carry.specs.Limits.{pairBytes}
 
--- What is owed of what is told about two pages, with the pair buffer after it: 'same' is said of equal bytes alone, and strings that are handed over
+-- What is owed of what is reported about two pages, with the pair buffer after it: 'same' is said of equal bytes alone, and strings that are handed over
 -- differ and have one SHA-256 value.
 unfoldable pub Sound : List ℕ → List ℕ → Answer Ruling → List ℕ → Type 0
 Sound page₁ page₂ (done Ruling.samePage) pair = page₁ ≡ page₂

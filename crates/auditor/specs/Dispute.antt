@@ -28,20 +28,20 @@ pub data Finding : Type 0 where
   nodes : List ℕ → List ℕ → Finding
   pages : Finding
 
--- what a dispute that is not refused tells: 'same', that two strings of nodes were written, or that the pages are the two strings
+-- what a dispute that is not refused reports: 'same', that two strings of nodes were written, or that the pages are the two strings
 pub data Ruling : Type 0 where
   samePage : Ruling
   ofNodes : Ruling
   ofPages : Ruling
 
--- what it tells
+-- what it reports
 unfoldable pub disputeReport : Finding → Answer Ruling
 disputeReport (refused n) = Answer.refused n
 disputeReport alike = done samePage
 disputeReport (nodes s t) = done ofNodes
 disputeReport pages = done ofPages
 
--- what each case of the code's answer tells
+-- what each case of the code's answer reports
 abbrev pub settling : Settled → Answer Ruling
 settling (Refused n) = Answer.refused n
 settling Same = done samePage

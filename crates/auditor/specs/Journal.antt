@@ -23,7 +23,7 @@ append room used size root path =
     (cond (not (eqb (length path % 32) 0)) (refused 10)
     (into (room - used) (joinedHeads (then size root path end))))
 
--- what it tells: the number, or how many bytes are used after it
+-- what it reports: the number, or how many bytes are used after it
 unfoldable pub appendReport : ℕ → Outcome → Answer ℕ
 appendReport used (refused n) = Answer.refused n
 appendReport used (wrote w) = done (used + length w)
@@ -33,7 +33,7 @@ unfoldable pub journalAfter : ℕ → Outcome → List ℕ → List ℕ
 journalAfter used (refused n) b = b
 journalAfter used (wrote w) b = put b used w
 
--- what each case of the code's answer tells
+-- what each case of the code's answer reports
 abbrev pub appending : Appended → Answer ℕ
 appending (Used n) = done n
 appending (Refused n) = Answer.refused n

@@ -21,7 +21,7 @@ pub data Journal : Type 0 where
   kept : (bytes : List ℕ) (used : ℕ) → Journal
   lost : ℕ → Journal
 
--- after an append: the buffer, and what the append told
+-- after an append: the buffer, and what the append reported
 unfoldable pub noted : List ℕ → Answer ℕ → Journal
 noted bytes (done used) = kept bytes used
 noted bytes (refused n) = lost n

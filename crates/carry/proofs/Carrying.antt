@@ -89,18 +89,18 @@ module _ (H : List ℕ → List ℕ) (leaf : List ℕ) (place m n : ℕ) (root�
           unfolding carry unless
           long l = rw (← e, ← g, eq-eqb v 0 z, eq-eqb w 0 y, le-ltb room (32 * inclusionCount place n) r, le-ltb pair pairBytes l)
 
--- what is told and the buffers, by what is carried
-pub tells-refused : {c : Forward} {k : ℕ} (o b : List ℕ) → c ≡ refused k → (Answer.refused k ≡ carryReport c) × ((o ≡ pathCarried c o) × (b ≡ pairCarried c b))
+-- what is reported and the buffers, by what is carried
+pub reports-refused : {c : Forward} {k : ℕ} (o b : List ℕ) → c ≡ refused k → (Answer.refused k ≡ carryReport c) × ((o ≡ pathCarried c o) × (b ≡ pairCarried c b))
 unfolding carryReport pathCarried pairCarried
-tells-refused o b e = rw e (refl, (refl, refl))
+reports-refused o b e = rw e (refl, (refl, refl))
 
-pub tells-apart : {c : Forward} {d : Difference} {s t y : List ℕ} (w o b : List ℕ) → c ≡ forwarded d w → d ≡ apart s t → y ≡ over (s ++ t) b → (done Moved.ofStrings ≡ carryReport c) × ((o ≡ pathCarried c o) × (y ≡ pairCarried c b))
+pub reports-apart : {c : Forward} {d : Difference} {s t y : List ℕ} (w o b : List ℕ) → c ≡ forwarded d w → d ≡ apart s t → y ≡ over (s ++ t) b → (done Moved.ofStrings ≡ carryReport c) × ((o ≡ pathCarried c o) × (y ≡ pairCarried c b))
 unfolding carryReport pathCarried pairCarried forwarded
-tells-apart w o b e f g = rw (e, f, g) (refl, (refl, refl))
+reports-apart w o b e f g = rw (e, f, g) (refl, (refl, refl))
 
-pub tells-path : {c : Forward} {d : Difference} {w y : List ℕ} {r : ℕ} (u o b : List ℕ) → c ≡ forwarded d w → d ≡ alike → w ≡ u → r ≡ length u → y ≡ over u o → (done (Moved.ofPath r) ≡ carryReport c) × ((y ≡ pathCarried c o) × (b ≡ pairCarried c b))
+pub reports-path : {c : Forward} {d : Difference} {w y : List ℕ} {r : ℕ} (u o b : List ℕ) → c ≡ forwarded d w → d ≡ alike → w ≡ u → r ≡ length u → y ≡ over u o → (done (Moved.ofPath r) ≡ carryReport c) × ((y ≡ pathCarried c o) × (b ≡ pairCarried c b))
 unfolding carryReport pathCarried pairCarried forwarded
-tells-path u o b e f h i g = rw (e, f, h, i, g) (refl, (refl, refl))
+reports-path u o b e f h i g = rw (e, f, h, i, g) (refl, (refl, refl))
 
 -- what the code walked, of the bytes as they came
 module _ (H : List ℕ → List ℕ) (leaf : List ℕ) (place m n : ℕ) (root₁ path proof : List ℕ) (two : Both leaf place m n root₁ path proof) {h f : List ℕ} (eh : h ≡ hashAt 0 leaf) (ef : f ≡ hashAt 0 root₁) where
@@ -241,10 +241,10 @@ settles alike w c e = inl (w, e)
 settles (apart s t) w c e = inr (s, (t, e))
 
 -- strings that are handed over come of two accepted proofs
-pub handed : (H : List ℕ → List ℕ) (leaf : List ℕ) (place m n : ℕ) (root₁ root₂ path proof : List ℕ) (room pair : ℕ) (s t : List ℕ) → carry H leaf place m n root₁ root₂ path proof room pair ≡ collision s t →
+pub collision-of-accepted : (H : List ℕ → List ℕ) (leaf : List ℕ) (place m n : ℕ) (root₁ root₂ path proof : List ℕ) (room pair : ℕ) (s t : List ℕ) → carry H leaf place m n root₁ root₂ path proof room pair ≡ collision s t →
     (inclusionVerdict H leaf place m root₁ path ≡ 0) × ((consistencyVerdict H m n root₁ root₂ proof ≡ 0) × (conflict H m n place leaf (nodes path) root₁ (nodes proof) ≡ apart s t))
 unfolding carry
-handed H leaf place m n root₁ root₂ path proof room pair s t e =
+collision-of-accepted H leaf place m n root₁ root₂ path proof room pair s t e =
     let a = opened refused (inclusionVerdict H leaf place m root₁ path) _ _ e (is-collision s t) in
     let b = opened refused (consistencyVerdict H m n root₁ root₂ proof) _ _ (a .1) (is-collision s t) in
     let c = passed refused (collision s t) (is-collision s t) (ltb room (32 * inclusionCount place n)) 9 _ (b .1) in
@@ -304,7 +304,7 @@ module _ (H : List ℕ → List ℕ) (H32 : (s : List ℕ) → length (H s) ≡ 
           let f = forwarded-alike (conflict H m n place leaf (nodes path) root₁ (nodes proof)) (joined (forward H m n place (nodes path) root₁ (nodes proof))) w (d .1) in
           ap (inclusionVerdict H leaf place n root₂) (sym (f .1)) ∙ again leaf place m n root₁ root₂ path proof (a .0) (b .0) (f .0);
       collides = λ s t e.
-          let a = handed H leaf place m n root₁ root₂ path proof room pair s t e in
+          let a = collision-of-accepted H leaf place m n root₁ root₂ path proof room pair s t e in
           apart-right _ _ _ s t (a .1 .1) (shown leaf place m n root₁ root₂ path proof (a .0) (a .1 .0));
       reports = λ s t e f r l.
           let D = conflict H m n place leaf (nodes path) root₁ (nodes proof) in

@@ -66,18 +66,18 @@ module _ (H : List ℕ → List ℕ) (place n : ℕ) (root leaf₁ path₁ leaf�
         unfolding compare unless
         long l = rw (← e, ← g, eq-eqb v 0 z, eq-eqb w 0 y, le-ltb room pairBytes l)
 
--- what is told and the buffer, by what is compared
-pub tells-refused : {c : Comparison} {n : ℕ} (b : List ℕ) → c ≡ refused n → (Answer.refused n ≡ compareReport c) × (b ≡ pairCompared c b)
+-- what is reported and the buffer, by what is compared
+pub reports-refused : {c : Comparison} {n : ℕ} (b : List ℕ) → c ≡ refused n → (Answer.refused n ≡ compareReport c) × (b ≡ pairCompared c b)
 unfolding compareReport pairCompared
-tells-refused b e = rw e (refl, refl)
+reports-refused b e = rw e (refl, refl)
 
-pub tells-same : {c : Comparison} {d : Difference} (b : List ℕ) → c ≡ found d → d ≡ alike → (done Likeness.same ≡ compareReport c) × (b ≡ pairCompared c b)
+pub reports-same : {c : Comparison} {d : Difference} (b : List ℕ) → c ≡ found d → d ≡ alike → (done Likeness.same ≡ compareReport c) × (b ≡ pairCompared c b)
 unfolding compareReport pairCompared found
-tells-same b e f = rw (e, f) (refl, refl)
+reports-same b e f = rw (e, f) (refl, refl)
 
-pub tells-apart : {c : Comparison} {d : Difference} {s t : List ℕ} {y : List ℕ} (b : List ℕ) → c ≡ found d → d ≡ apart s t → y ≡ over (s ++ t) b → (done Likeness.ofStrings ≡ compareReport c) × (y ≡ pairCompared c b)
+pub reports-apart : {c : Comparison} {d : Difference} {s t : List ℕ} {y : List ℕ} (b : List ℕ) → c ≡ found d → d ≡ apart s t → y ≡ over (s ++ t) b → (done Likeness.ofStrings ≡ compareReport c) × (y ≡ pairCompared c b)
 unfolding compareReport pairCompared found
-tells-apart b e f g = rw (e, f, g) (refl, refl)
+reports-apart b e f g = rw (e, f, g) (refl, refl)
 
 -- what the code finds, of the bytes as they came
 pub difference-bytes : (H : List ℕ → List ℕ) (place n : ℕ) (leaf₁ path₁ leaf₂ path₂ : List ℕ) {d : Difference} {h g : List ℕ} → d ≡ differ H place n h (firstNodes (length path₁ / 32) path₁) g (firstNodes (length path₁ / 32) path₂) →
@@ -109,10 +109,10 @@ either alike c e = inl e
 either (apart s t) c e = inr (s, (t, e))
 
 -- strings that are handed over are those of two accepted proofs
-pub handed : (H : List ℕ → List ℕ) (place n : ℕ) (root leaf₁ path₁ leaf₂ path₂ : List ℕ) (room : ℕ) (s t : List ℕ) → compare H place n root leaf₁ path₁ leaf₂ path₂ room ≡ collision s t →
+pub collision-of-accepted : (H : List ℕ → List ℕ) (place n : ℕ) (root leaf₁ path₁ leaf₂ path₂ : List ℕ) (room : ℕ) (s t : List ℕ) → compare H place n root leaf₁ path₁ leaf₂ path₂ room ≡ collision s t →
     (inclusionVerdict H leaf₁ place n root path₁ ≡ 0) × ((inclusionVerdict H leaf₂ place n root path₂ ≡ 0) × (differ H place n leaf₁ (nodes path₁) leaf₂ (nodes path₂) ≡ apart s t))
 unfolding compare
-handed H place n root leaf₁ path₁ leaf₂ path₂ room s t e =
+collision-of-accepted H place n root leaf₁ path₁ leaf₂ path₂ room s t e =
     let a = opened refused (inclusionVerdict H leaf₁ place n root path₁) _ _ e (is-collision s t) in
     let b = opened refused (inclusionVerdict H leaf₂ place n root path₂) _ _ (a .1) (is-collision s t) in
     let c = passed refused (collision s t) (is-collision s t) (ltb room pairBytes) 9 _ (b .1) in
@@ -142,7 +142,7 @@ module _ (H : List ℕ → List ℕ) (H32 : (s : List ℕ) → length (H s) ≡ 
   comparing = record {
     compares = λ place n root leaf₁ path₁ leaf₂ path₂ room. record {
       collides = λ s t e.
-          let a = handed H place n root leaf₁ path₁ leaf₂ path₂ room s t e in
+          let a = collision-of-accepted H place n root leaf₁ path₁ leaf₂ path₂ room s t e in
           apart-shows leaf₁ (nodes path₁) leaf₂ (nodes path₂) _ s t (a .1 .1) (shown place n root leaf₁ path₁ leaf₂ path₂ (a .0) (a .1 .0));
       same = λ e f l. (
         λ w.

@@ -1,4 +1,4 @@
--- What the cases of the two answers tell loses nothing. Assumes nothing.
+-- What the cases of the two answers report loses nothing. Assumes nothing.
 use mathlib.Core.Path.{_≡_, refl, ap}
 use Prim.Native.Nat.{ℕ}
 use native.Mathlib.Omega.{arith}

@@ -21,18 +21,18 @@ pub data Comparison : Type 0 where
   equal : Comparison
   collision : List ℕ → List ℕ → Comparison
 
--- what a comparison that is not refused tells: 'same', or that two strings were written
+-- what a comparison that is not refused reports: 'same', or that two strings were written
 pub data Likeness : Type 0 where
   same : Likeness
   ofStrings : Likeness
 
--- what it tells
+-- what it reports
 unfoldable pub compareReport : Comparison → Answer Likeness
 compareReport (refused n) = Answer.refused n
 compareReport equal = done same
 compareReport (collision s t) = done ofStrings
 
--- what each case of the code's answer tells
+-- what each case of the code's answer reports
 abbrev pub comparing : Compared → Answer Likeness
 comparing (Refused n) = Answer.refused n
 comparing Same = done same

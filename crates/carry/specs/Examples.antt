@@ -56,7 +56,7 @@ abbrev pub compareOf : (List ℕ → List ℕ) → ℕ → ℕ → ℕ → ℕ �
 compareOf H place size root leaf₁ path₁ leaf₂ path₂ more =
     compare.compare H place size (hash root) (hash leaf₁) (hashes path₁) (hash leaf₂) (hashes path₂) (length (pair more))
 
--- what a row says: the outcome, what it tells, the path buffer and the pair buffer
+-- what a row says: the outcome, its report, the path buffer and the pair buffer
 abbrev pub ExampleSays : Example → Type 0
 ExampleSays (carries H leaf place m n old new path proof more w) =
     (carryOf H leaf place m n old new path proof more ≡ forward.carried (hashes w))

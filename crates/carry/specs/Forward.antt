@@ -24,18 +24,18 @@ pub data Forward : Type 0 where
   carried : List ℕ → Forward
   collision : List ℕ → List ℕ → Forward
 
--- what a carrying that is not refused tells: how many bytes of path were written, or that two strings were
+-- what a carrying that is not refused reports: how many bytes of path were written, or that two strings were
 pub data Moved : Type 0 where
   ofPath : ℕ → Moved
   ofStrings : Moved
 
--- what it tells
+-- what it reports
 unfoldable pub carryReport : Forward → Answer Moved
 carryReport (refused n) = Answer.refused n
 carryReport (carried w) = done (ofPath (length w))
 carryReport (collision s t) = done ofStrings
 
--- what each case of the code's answer tells
+-- what each case of the code's answer reports
 abbrev pub carrying : Carried → Answer Moved
 carrying (Refused n) = Answer.refused n
 carrying (Path n) = done (ofPath n)

@@ -32,7 +32,7 @@ pub(crate) fn put_pair(a: Digest, b: Digest, c: Digest, d: Digest, out: &mut [u8
 }
 
 // Writes a path at the start of a buffer: the first `low` hashes of one, the first `hashed` of another (0 or 1), and those of a third from
-// `high` on; tells how many bytes it is.
+// `high` on; returns how many bytes it is.
 pub(crate) fn put_path(
     path: &[u8],
     low: usize,

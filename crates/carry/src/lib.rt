@@ -20,7 +20,7 @@ ghost use Rattle.carry.specs.Forward.{carrying};
 ghost use Rattle.carry.specs.Levels.{Levelled};
 
 // What is proved of carrying and comparing beside their own promises: of every hash, or of every hash of 32 bytes; of the paper's cases, of examples with
-// collisions, and that what the answers tell loses nothing. It does nothing.
+// collisions, and that what the answers report loses nothing. It does nothing.
 pub fn claims()
     ensures carries { λ _. ⌜ OfEvery32 Carrying ⌝ }
     ensures honest_list { λ _. ⌜ OfEvery32 Honest ⌝ }

@@ -53,7 +53,7 @@ ends g e calls (joins {calls = more} κs leaves o p rest) = one-more g e (ofLeav
 from-new : (start end : Growing) (calls : List Call) → new-reads.Learnt tt tt start tt → Run start calls end → end ≡ treeAfter sha256 fresh calls
 from-new start end calls s run = ends start end calls run ∙ ap (λ (g : Growing). treeAfter sha256 g calls) s
 
--- the tree after any run from a new tree, and the root that is then told
+-- the tree after any run from a new tree, and the root then
 pub every :
     (start end : Growing) (calls : List Call) → new-reads.Learnt tt tt start tt → Run start calls end → Follows sha256 end (leavesTaken sha256 fresh calls)
 every start end calls s run = rw (from-new start end calls s run) (follows-all sha256 calls)

@@ -1,5 +1,5 @@
 // A growing tree: the roots of the full subtrees of all leaves so far, and their count (document 02, request 2). It takes one page, or joined leaf hashes,
-// per call, is handed in and handed back by value, and tells its root at any moment. The hash at index i stands for 2^i leaves and counts where bit i of the
+// per call, is handed in and handed back by value, and gives its root at any moment. The hash at index i stands for 2^i leaves and counts where bit i of the
 // count is one; elsewhere stand 32 zeros, so that two trees with the same leaves are equal.
 //
 // add: the calls    levels: more leaf hashes, and the root, level by level

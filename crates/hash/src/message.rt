@@ -18,7 +18,10 @@ use sha256::step_at;
 // Head and then rest, at the start of an array of zeros.
 fn join(head: &[u8], rest: &[u8], a: &mut [u8])
     requires { ⌜ (length (now head) + length (now rest) ≤ length (now a)) × (now a ≡ replicate (length (now a)) 0) ⌝ }
-    ensures { λ _. ⌜ now (a .exit) ≡ (now (head .entry) ++ now (rest .entry)) ++ replicate (length (now (a .entry)) - (length (now (head .entry)) + length (now (rest .entry)))) 0 ⌝ }
+    ensures { λ _. ⌜
+        now (a .exit)
+        ≡ (now (head .entry) ++ now (rest .entry))
+        ++ replicate (length (now (a .entry)) - (length (now (head .entry)) + length (now (rest .entry)))) 0 ⌝ }
 {
     let k = head.len();
     put(a, 0, head);
@@ -48,8 +51,15 @@ fn compress(s: State, m: &[u8], p: usize, w: &mut [u32]) -> State
 
 // The hash value after the last bytes of a message of n bytes, head and then rest, and what follows a message.
 fn finish(s: State, head: &[u8], rest: &[u8], n: u64, w: &mut [u32]) -> State
-    requires { ⌜ (length (now head) + length (now rest) < 120) × (n < 2 ^ 60) × (n % 64 ≡ (length (now head) + length (now rest)) % 64) × (length (now w) ≡ 64) ⌝ }
-    ensures { λ r. ⌜ r ≡ absorbed compressOf s ((now (head .entry) ++ now (rest .entry)) ++ ending n) ((length (now (head .entry)) + length (now (rest .entry)) + 72) / 64) ⌝ }
+    requires { ⌜
+        (length (now head) + length (now rest) < 120)
+        × (n < 2 ^ 60)
+        × (n % 64 ≡ (length (now head) + length (now rest)) % 64)
+        × (length (now w) ≡ 64) ⌝ }
+    ensures { λ r. ⌜
+        r
+        ≡ absorbed compressOf s ((now (head .entry) ++ now (rest .entry)) ++ ending n)
+        ((length (now (head .entry)) + length (now (rest .entry)) + 72) / 64) ⌝ }
 {
     let end = (head.len() + rest.len() + 72) / 64 * 64;
     let mut a = [0u8; 128];
@@ -73,7 +83,11 @@ fn first(head: &[u8], m: &[u8], p: usize, w: &mut [u32]) -> State
 
 // The hash value after a message of more than one block, head and then m.
 fn long(head: &[u8], m: &[u8], w: &mut [u32]) -> State
-    requires { ⌜ (length (now head) < 64) × (64 ≤ length (now head) + length (now m)) × (length (now head) + length (now m) < 2 ^ 60) × (length (now w) ≡ 64) ⌝ }
+    requires { ⌜
+        (length (now head) < 64)
+        × (64 ≤ length (now head) + length (now m))
+        × (length (now head) + length (now m) < 2 ^ 60)
+        × (length (now w) ≡ 64) ⌝ }
     ensures { λ r. ⌜ r ≡ hashValue compressOf initialOf (now (head .entry) ++ now (m .entry)) ⌝ }
 {
     let n = head.len() + m.len();

@@ -39,14 +39,6 @@ unfolding be
 be-length zero n = refl
 be-length (suc w) n = ap suc (be-length w n)
 
-low : (y : ℕ) → y % 256 < 256
-low y = omega arith
-
-pub be-bytes : (w n : ℕ) → Bytes (be w n)
-unfolding be
-be-bytes zero n = no-bytes
-be-bytes (suc w) n = one-byte (low (n / 256 ^ w)) (be-bytes w n)
-
 -- what the last w bytes of a number are the number of
 pub unbe-low : (w n : ℕ) → unbe (be w n) ≡ n % 256 ^ w
 unfolding be unbe
@@ -88,6 +80,15 @@ be-unbe (one-byte {b = b} {bs = bs} h t) =
     let d : (b * p + unbe bs) / p ≡ b = mul-add-div-right (pow-some (length bs)) b (unbe bs) ∙ ap (λ (k : ℕ). b + k) (div-eq-of-lt u) ∙ add-zero b in
     let m : (b * p + unbe bs) / p % 256 ≡ b = ap (λ (k : ℕ). k % 256) d ∙ mod-eq-of-lt h in
     ap₂ (λ (x : ℕ) (l : List ℕ). x ∷ l) m (be-above (length bs) b (unbe bs) ∙ be-unbe t)
+
+-- what is written of a number are bytes
+low : (y : ℕ) → y % 256 < 256
+low y = omega arith
+
+pub be-bytes : (w n : ℕ) → Bytes (be w n)
+unfolding be
+be-bytes zero n = no-bytes
+be-bytes (suc w) n = one-byte (low (n / 256 ^ w)) (be-bytes w n)
 
 -- the last bytes of a number
 pub be-tail : (k w n : ℕ) → drop k (be (k + w) n) ≡ be w n

@@ -45,7 +45,7 @@ module _ (s : State) (m w : List ℕ) (p : ℕ) where
   unfolding fits valueAfter scheduleAfter
   block-unscheduled h k = let e = le-leb (p + 64) (length m) h in let f = ne-eqb (length w) 64 k in (simp (e, f), simp (e, f))
 
--- ---- what the cases of the answer tell loses nothing
+-- ---- what the cases of the answer report loses nothing
 pub stepping-faithful : StepLosesNothing
 stepping-faithful (Done s) (Done t) e = let f : s ≡ t = cc in ap Done f
 stepping-faithful (Done s) (Refused y) e = absurd (let z : _≡_ {A = ℕ} 0 1 = cc in omega arith)

@@ -30,4 +30,5 @@ eightWith s k0 w0 k1 w1 k2 w2 k3 w3 k4 w4 k5 w5 k6 w6 k7 w7 =
 abbrev pub eightFrom : List ℕ → List ℕ → State → ℕ → State
 eightFrom k w s t =
     eightWith s (getD k t 0) (getD w t 0) (getD k (t + 1) 0) (getD w (t + 1) 0) (getD k (t + 2) 0) (getD w (t + 2) 0)
-    (getD k (t + 3) 0) (getD w (t + 3) 0) (getD k (t + 4) 0) (getD w (t + 4) 0) (getD k (t + 5) 0) (getD w (t + 5) 0) (getD k (t + 6) 0) (getD w (t + 6) 0) (getD k (t + 7) 0) (getD w (t + 7) 0)
+    (getD k (t + 3) 0) (getD w (t + 3) 0) (getD k (t + 4) 0) (getD w (t + 4) 0) (getD k (t + 5) 0) (getD w (t + 5) 0)
+    (getD k (t + 6) 0) (getD w (t + 6) 0) (getD k (t + 7) 0) (getD w (t + 7) 0)

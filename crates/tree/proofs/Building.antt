@@ -94,14 +94,14 @@ module _ (H : List ℕ → List ℕ) (s : List ℕ) where
   unfolding consistencyBuilt
   proof-in first room u z h = rw (u, ne-eqb first 0 z, le-ltb (length s / 32) first h)
 
--- what is told and the output, by the outcome
-pub tells-refused : {o : Outcome} {n : ℕ} (out : List ℕ) → o ≡ refused n → (Answer.refused n ≡ buildReport o) × (out ≡ output o out)
+-- what is reported and the output, by the outcome
+pub reports-refused : {o : Outcome} {n : ℕ} (out : List ℕ) → o ≡ refused n → (Answer.refused n ≡ buildReport o) × (out ≡ output o out)
 unfolding buildReport output
-tells-refused out e = rw e (refl, refl)
+reports-refused out e = rw e (refl, refl)
 
-pub tells-wrote : {o : Outcome} {w : List ℕ} {n : ℕ} {y : List ℕ} (out : List ℕ) → o ≡ wrote w → n ≡ length w → y ≡ over w out → (done n ≡ buildReport o) × (y ≡ output o out)
+pub reports-wrote : {o : Outcome} {w : List ℕ} {n : ℕ} {y : List ℕ} (out : List ℕ) → o ≡ wrote w → n ≡ length w → y ≡ over w out → (done n ≡ buildReport o) × (y ≡ output o out)
 unfolding buildReport output
-tells-wrote out e d f = rw (e, d, f) (refl, refl)
+reports-wrote out e d f = rw (e, d, f) (refl, refl)
 
 -- a root, written over the output
 pub over-whole : (h out : List ℕ) {y : List ℕ} → length h ≡ 32 → y ≡ paste out 0 h 32 → y ≡ over h out
@@ -113,10 +113,10 @@ pub from-start : (s : List ℕ) → nodesFrom 0 (length s / 32) s ≡ nodes s
 from-start s = sym (nodes-first s)
 
 -- what a recursion over all of them wrote
-pub tells-from : (f : List (List ℕ) → List (List ℕ)) (s out : List ℕ) {o : Outcome} {n : ℕ} {y : List ℕ} → o ≡ wrote (joined (f (nodes s))) → n ≡ length (joined (f (nodesFrom 0 (length s / 32) s))) → y ≡ over (joined (f (nodesFrom 0 (length s / 32) s))) out → (done n ≡ buildReport o) × (y ≡ output o out)
-tells-from f s out e d g =
+pub reports-from : (f : List (List ℕ) → List (List ℕ)) (s out : List ℕ) {o : Outcome} {n : ℕ} {y : List ℕ} → o ≡ wrote (joined (f (nodes s))) → n ≡ length (joined (f (nodesFrom 0 (length s / 32) s))) → y ≡ over (joined (f (nodesFrom 0 (length s / 32) s))) out → (done n ≡ buildReport o) × (y ≡ output o out)
+reports-from f s out e d g =
     let p = from-start s in
-    tells-wrote out e (d ∙ ap (λ (l : List (List ℕ)). length (joined (f l))) p) (g ∙ ap (λ (l : List (List ℕ)). over (joined (f l)) out) p)
+    reports-wrote out e (d ∙ ap (λ (l : List (List ℕ)). length (joined (f l))) p) (g ∙ ap (λ (l : List (List ℕ)). over (joined (f l)) out) p)
 
 pub nodes-none : (s : List ℕ) → length s / 32 ≡ 0 → nodes s ≡ []
 unfolding firstNodes

@@ -1,4 +1,4 @@
--- What the cases of a builder's answer tell loses nothing. Assumes nothing.
+-- What the cases of a builder's answer report loses nothing. Assumes nothing.
 use mathlib.Core.Path.{_≡_, ap}
 use Prim.Native.Nat.{ℕ}
 use native.Mathlib.Omega.{arith}

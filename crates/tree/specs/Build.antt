@@ -18,12 +18,12 @@ pub data Outcome : Type 0 where
   refused : ℕ → Outcome
   wrote : List ℕ → Outcome
 
--- what it tells: the number, or how many bytes were written
+-- what it reports: the number, or how many bytes were written
 unfoldable pub buildReport : Outcome → Answer ℕ
 buildReport (refused n) = Answer.refused n
 buildReport (wrote w) = done (length w)
 
--- what each case of the code's answer tells
+-- what each case of the code's answer reports
 abbrev pub building : Built → Answer ℕ
 building (Refused n) = Answer.refused n
 building (Wrote n) = done n

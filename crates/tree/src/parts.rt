@@ -26,7 +26,7 @@ pub(crate) fn part_root(leaves: &[u8], from: usize, n: usize) -> Digest
     hash::node(low, high)
 }
 
-// Writes that root into the output from `at` on, and tells where it ends.
+// Writes that root into the output from `at` on, and returns where it ends.
 pub(crate) fn put_root(leaves: &[u8], from: usize, n: usize, out: &mut [u8], at: usize) -> usize
     requires { ⌜ (0 < n) × (32 * (from + n) ≤ length (now leaves)) × (at + 32 ≤ length (now out)) ⌝ }
     ensures { λ r. ⌜ r ≡ at + 32 ⌝ }
@@ -36,7 +36,7 @@ pub(crate) fn put_root(leaves: &[u8], from: usize, n: usize, out: &mut [u8], at:
     at + 32
 }
 
-// Writes the inclusion path of a place of those n, joined, PATH of section 2.1.3.1, and tells how many bytes it is.
+// Writes the inclusion path of a place of those n, joined, PATH of section 2.1.3.1, and returns how many bytes it is.
 pub(crate) fn path_into(leaves: &[u8], from: usize, n: usize, place: usize, out: &mut [u8]) -> usize
     requires { ⌜
         (place < n)
@@ -58,7 +58,7 @@ pub(crate) fn path_into(leaves: &[u8], from: usize, n: usize, place: usize, out:
     put_root(leaves, from, k, out, c)
 }
 
-// Writes the consistency path from the first m of those n, joined, SUBPROOF of section 2.1.4.1, and tells how many bytes it is.
+// Writes the consistency path from the first m of those n, joined, SUBPROOF of section 2.1.4.1, and returns how many bytes it is.
 pub(crate) fn proof_into(
     leaves: &[u8],
     from: usize,

@@ -7,6 +7,13 @@ use reference::tree::Hash;
 
 /// Each public function of the translated crates; one more is a failure of the run until it is compared too.
 pub const COMPARED: &[&str] = &[
+    "octets::same",
+    "octets::put",
+    "octets::copy",
+    "octets::number_at",
+    "octets::put_number",
+    "octets::be8",
+    "octets::width_of",
     "tree::build::bad_leaves",
     "tree::build::root_of",
     "tree::build::root",
@@ -16,7 +23,6 @@ pub const COMPARED: &[&str] = &[
     "tree::verdict::consistency_verdict",
     "tree::count::inclusion_count",
     "tree::count::subproof_count",
-    "tree::nodes::copy",
     "tree::nodes::node_at",
     "tree::nodes::equals",
     "tree::split::split_of",
@@ -63,11 +69,18 @@ pub struct Two {
 pub type Wrote = Result<usize, u64>;
 
 pub trait Code: Sync {
+    fn same(&self, one: &[u8], two: &[u8]) -> bool;
+    fn put(&self, to: &mut [u8], at: usize, bytes: &[u8]);
+    fn copy(&self, from: &[u8], start: usize, length: usize, to: &mut [u8], at: usize);
+    /// A width is 1 to 8.
+    fn number_at(&self, bytes: &[u8], at: usize, width: usize) -> u64;
+    fn put_number(&self, to: &mut [u8], at: usize, width: usize, n: u64);
+    fn be8(&self, n: u64) -> [u8; 8];
+    fn width_of(&self, width: usize) -> usize;
     fn split_of(&self, n: u64) -> u64;
     fn inclusion_count(&self, place: u64, size: u64) -> usize;
     fn subproof_count(&self, first: u64, second: u64, known: bool) -> usize;
     fn node_at(&self, joined: &[u8], at: usize) -> Hash;
-    fn copy(&self, from: &[u8], start: usize, length: usize, to: &mut [u8], at: usize);
     fn equals(&self, hash: &Hash, bytes: &[u8]) -> bool;
     fn yielded_root(&self, leaf: &Hash, place: u64, size: u64, path: &[u8]) -> Hash;
     fn yielded_roots(&self, known_root: &Hash, first: u64, second: u64, known: bool, path: &[u8]) -> (Hash, Hash);

@@ -6,6 +6,11 @@ fn digest(bytes: &[u8; 32]) -> hash::Digest {
     hash::Digest { bytes: *bytes }
 }
 
+fn width(count: usize) -> octets::Width {
+    use octets::Width::*;
+    [One, Two, Three, Four, Five, Six, Seven, Eight][count - 1]
+}
+
 fn wrote(built: tree::build::Built) -> crate::code::Wrote {
     match built {
         tree::build::Built::Wrote(length) => Ok(length),
@@ -45,6 +50,34 @@ fn answered(of: auditor::Answered) -> (u64, reference::auditor::Stored) {
 }
 
 impl crate::code::Code for Entries {
+    fn same(&self, one: &[u8], two: &[u8]) -> bool {
+        octets::same(one, two)
+    }
+
+    fn put(&self, to: &mut [u8], at: usize, bytes: &[u8]) {
+        octets::put(to, at, bytes)
+    }
+
+    fn copy(&self, from: &[u8], start: usize, length: usize, to: &mut [u8], at: usize) {
+        octets::copy(from, start, length, to, at)
+    }
+
+    fn number_at(&self, bytes: &[u8], at: usize, of: usize) -> u64 {
+        octets::number_at(bytes, at, width(of))
+    }
+
+    fn put_number(&self, to: &mut [u8], at: usize, of: usize, n: u64) {
+        octets::put_number(to, at, width(of), n)
+    }
+
+    fn be8(&self, n: u64) -> [u8; 8] {
+        octets::be8(n)
+    }
+
+    fn width_of(&self, of: usize) -> usize {
+        octets::width_of(width(of))
+    }
+
     fn split_of(&self, n: u64) -> u64 {
         tree::split::split_of(n)
     }
@@ -59,10 +92,6 @@ impl crate::code::Code for Entries {
 
     fn node_at(&self, joined: &[u8], at: usize) -> [u8; 32] {
         tree::nodes::node_at(joined, at).bytes
-    }
-
-    fn copy(&self, from: &[u8], start: usize, length: usize, to: &mut [u8], at: usize) {
-        tree::nodes::copy(from, start, length, to, at)
     }
 
     fn equals(&self, hash: &[u8; 32], bytes: &[u8]) -> bool {

@@ -1,5 +1,5 @@
 //! What the translated crates stand on, written here: a hash of few values in the place of
-//! SHA-256, the kit's comparison of bytes and its sums that wrap.
+//! SHA-256, and the kit's sums that wrap.
 
 use reference::tree::Hash;
 use std::sync::atomic::{AtomicU32, Ordering};
@@ -55,12 +55,6 @@ pub mod hash {
 
     pub fn empty() -> Digest {
         Digest { bytes: weak(&[]) }
-    }
-}
-
-pub mod check {
-    pub fn same(a: &[u8], b: &[u8]) -> bool {
-        a == b
     }
 }
 

@@ -503,25 +503,66 @@ impl<'a> Hold<'a> {
         self.same("root by value", expected, tried(|| code.root_of(leaves)), leaves);
     }
 
+    /// Byte strings and numbers.
+    pub fn octets(&mut self, bytes: &[u8], out: &[u8], random: &mut Random) {
+        let code = self.code;
+        let mut other = bytes.to_vec();
+        match (random.below(4), random.below(bytes.len() as u64 + 1) as usize) {
+            (0, _) => (),
+            (1, length) => other.truncate(length),
+            (2, _) => other.push(random.draw() as u8),
+            (_, at) => other.iter_mut().skip(at).take(1).for_each(|byte| *byte ^= 1 << random.below(8)),
+        }
+        for (one, two) in [(bytes, &other[..]), (&other[..], bytes)] {
+            let length = if one.len() == two.len() { "one length" } else { "two lengths" };
+            self.kind("same", format!("{} of {length}", one == two));
+            self.same("same", one == two, tried(|| code.same(one, two)), (one, two));
+        }
+        let [start, length, to] = [bytes.len(), 40, out.len()].map(|most| random.below(most as u64 + 2) as usize);
+        let from = bytes.get(start..start + length);
+        self.kind("copy", if from.is_some() { "bytes that are there" } else { "bytes that are not there" });
+        self.written("copy", out, from.map(|from| (to, from)), |out| code.copy(bytes, start, length, out, to), (bytes, start, length, to));
+        let some = &other[..length.min(other.len())];
+        self.written("put", out, Some((to, some)), |out| code.put(out, to, some), (some, to));
+
+        let (width, at) = (random.between(1, 8) as usize, random.below(bytes.len() as u64 + 2) as usize);
+        let there = bytes.get(at..).unwrap_or(&[]);
+        let digits = &there[..width.min(there.len())];
+        self.kind("number at", format!("{}{}", if digits.len() < width { "fewer bytes than " } else { "" }, width));
+        let number = digits.iter().fold(0, |number, digit| number << 8 | u64::from(*digit));
+        self.same("number at", number, tried(|| code.number_at(bytes, at, width)), (bytes, at, width));
+        let n = random.draw() >> random.below(64);
+        self.same("be8", n.to_be_bytes(), tried(|| code.be8(n)), n);
+        self.same("width_of", width, tried(|| code.width_of(width)), width);
+        let digits = &n.to_be_bytes()[8 - width..];
+        self.written("put number", out, Some((to, digits)), |out| code.put_number(out, to, width, n), (to, width, n));
+    }
+
+    /// Bytes written over a buffer from a place on, or nothing where they do not fit.
+    fn written(&mut self, entry: &str, out: &[u8], bytes: Option<(usize, &[u8])>, write: impl FnOnce(&mut [u8]), of: impl Debug) {
+        let mut after = out.to_vec();
+        if let Some((at, bytes)) = bytes {
+            self.kind(entry, format!("a buffer that is {}", room(out.len(), at + bytes.len())));
+            if let Some(part) = after.get_mut(at..at + bytes.len()) {
+                part.copy_from_slice(bytes);
+            }
+        }
+        let found = tried(|| {
+            let mut out = out.to_vec();
+            write(&mut out);
+            out
+        });
+        self.same(entry, after, found, (out, of));
+    }
+
     /// What the crates above build on.
-    pub fn tools(&mut self, joined: &[u8], out: &[u8], random: &mut Random) {
+    pub fn tools(&mut self, joined: &[u8], random: &mut Random) {
         let code = self.code;
         let at = random.below(joined.len() as u64 / 32 + 2) as usize;
         let node = joined.get(32 * at..32 * at + 32).map_or([0; 32], |bytes| bytes.try_into().unwrap());
         self.same("node at", node, tried(|| code.node_at(joined, at)), (joined, at));
         let other = if random.one_in(2) { joined.get(..32).unwrap_or(joined) } else { joined };
         self.same("equals", node[..] == *other, tried(|| code.equals(&node, other)), (node, other));
-        let [start, length, to] = [joined.len(), 40, out.len()].map(|most| random.below(most as u64 + 2) as usize);
-        let mut after = out.to_vec();
-        if let (Some(from), Some(part)) = (joined.get(start..start + length), after.get_mut(to..to + length)) {
-            part.copy_from_slice(from);
-        }
-        let found = tried(|| {
-            let mut out = out.to_vec();
-            code.copy(joined, start, length, &mut out, to);
-            out
-        });
-        self.same("copy", after, found, (joined, start, length, out, to));
         let n = if random.one_in(2) { near_power(random) } else { random.draw() >> random.below(64) }.max(2);
         self.same("split_of", tree::split(n), tried(|| code.split_of(n)), n);
         for other in [random.draw() >> random.below(64), n - 1, n, 0] {

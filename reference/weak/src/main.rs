@@ -1,4 +1,4 @@
-//! weak SEED [COUNT]: the text of tree, growing, carry and auditor, as Rust over a hash of few
+//! weak SEED [COUNT]: the text of octets, tree, growing, carry and auditor, as Rust over a hash of few
 //! values, held against the reference on COUNT rounds of forged proofs and growing trees. Each kind
 //! of collision and of refusal must come up, each wrong edit must be found, and the translation must
 //! refuse what it does not know. The last line is `N passed, M failed`; the status is not 0 where M is above 0.
@@ -97,7 +97,8 @@ fn tree_round(hold: &mut Hold, random: &mut Random) {
     let needed = if is_path && random.one_in(2) { 32 * yields::inclusion_count(place, count) } else { 32 * random.below(7) as usize };
     let out = some_out(needed, random);
     hold.builders(&leaves, place, first, &out);
-    hold.tools(&leaves, &out, random);
+    hold.octets(&leaves, &out, random);
+    hold.tools(&leaves, random);
 }
 
 /// A list of calls to one auditor, and the dispute of every two accepted pages at one place.
@@ -351,7 +352,7 @@ fn main() {
         tally.count(COMPARED.contains(name), || format!("public, and not compared: {name}"));
     }
     translation(&mut tally);
-    let is_full = WANTED.lines().count() > 185 && variants::CODES.len() > 46;
+    let is_full = WANTED.lines().count() > 215 && variants::CODES.len() > 52;
     tally.count(is_full, || "kinds or wrong programs are gone".to_string());
 
     let hold = rounds(variants::CODES[0].1, seed, count, false);

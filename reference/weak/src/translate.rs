@@ -18,6 +18,23 @@ pub struct Done {
     pub clauses: usize,
     pub ghost_lines: usize,
     pub public: Vec<Public>,
+    /// Public functions of modules that callers do not see.
+    hidden: Vec<Public>,
+    /// `pub use` lines of modules that callers see: the module and the path.
+    passed_on: Vec<(String, String)>,
+}
+
+impl Done {
+    /// A hidden function that a `pub use` passes on is public by the name that this gives it.
+    pub fn pass_on(&mut self) {
+        for (module, path) in std::mem::take(&mut self.passed_on) {
+            let whole = format!("{module}::{path}");
+            if let Some(at) = self.hidden.iter().position(|one| one.name == whole) {
+                let name = format!("{module}::{}", path.rsplit("::").next().unwrap());
+                self.public.push(Public { name, is_empty: self.hidden[at].is_empty });
+            }
+        }
+    }
 }
 
 /// Where the text of a file comes from, changed or not.
@@ -227,7 +244,16 @@ impl<'a> Reader<'a> {
             }
         }
         match self.copy()? {
-            "use" | "const" | "type" => self.through(";"),
+            "use" => {
+                let from = self.out.len();
+                self.through(";")?;
+                if is_open && self.is_open {
+                    let path = self.out[from..].trim_end_matches(';').trim().to_string();
+                    self.done.passed_on.push((self.name.to_string(), path));
+                }
+                Ok(())
+            }
+            "const" | "type" => self.through(";"),
             "mod" => self.inner_module(is_open),
             "struct" => {
                 self.out.insert_str(start, "#[derive(Clone, Copy)] ");
@@ -254,11 +280,11 @@ impl<'a> Reader<'a> {
                         self.copy()?;
                     }
                     self.expect("fn")?;
-                    self.function(&of, is_open && self.is_open)?;
+                    self.function(&of, is_open)?;
                 }
                 self.expect("}")
             }
-            "fn" => self.function("", is_open && self.is_open),
+            "fn" => self.function("", is_open),
             token => Err(format!("an item that starts with `{token}`")),
         }
     }
@@ -268,7 +294,7 @@ impl<'a> Reader<'a> {
     }
 
     /// A signature, clauses, and a block; `of` is the type of a method.
-    fn function(&mut self, of: &str, is_public: bool) -> Result<(), String> {
+    fn function(&mut self, of: &str, is_open: bool) -> Result<(), String> {
         let name = self.name()?;
         if self.is_next("<")? {
             self.lifetimes()?;
@@ -291,9 +317,10 @@ impl<'a> Reader<'a> {
             self.clause()?;
         }
         self.done.functions += 1;
-        if is_public {
+        if is_open {
             let name = format!("{}::{of}{name}", self.name);
-            self.done.public.push(Public { name, is_empty: takes_nothing && answers_nothing });
+            let kept = if self.is_open { &mut self.done.public } else { &mut self.done.hidden };
+            kept.push(Public { name, is_empty: takes_nothing && answers_nothing });
         }
         self.block()
     }

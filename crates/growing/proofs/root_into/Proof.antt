@@ -9,7 +9,7 @@ use lib.ListN.{length}
 use lib.Seq.{paste}
 use Rattle.hash.specs.Digest.{sha256}
 use Rattle.octets.proofs.Putting.{copied-fits}
-use Rattle.tree.proofs.Building.{short, long, tells-refused, tells-wrote, over-whole}
+use Rattle.tree.proofs.Building.{short, long, reports-refused, reports-wrote, over-whole}
 use Rattle.growing.specs.Hashes.{rootNow}
 use Rattle.growing.proofs.Stepping.{root-into-of}
 use Rattle.growing.proofs.root_into.Statement.{statement}
@@ -22,7 +22,7 @@ returns c =
     let m = c .before .before .root in
     let w : length (m .result .bytes) ≡ 32 = search needs in
     let v : length (rootNow sha256 (a .g)) ≡ 32 = ap length (sym (m .ensures)) ∙ w in
-    tells-refused (now (a .out)) (root-into-of sha256 (a .g) r ∙ short r (rootNow sha256 (a .g)) (omega arith))
+    reports-refused (now (a .out)) (root-into-of sha256 (a .g) r ∙ short r (rootNow sha256 (a .g)) (omega arith))
 
 returns-2 : tie.Need-returns-2
 returns-2 c =
@@ -32,7 +32,7 @@ returns-2 c =
     let w : length (m .result .bytes) ≡ 32 = search needs in
     let v : length (rootNow sha256 (a .g)) ≡ 32 = ap length (sym (m .ensures)) ∙ w in
     let y = copied-fits (m .result .bytes) 0 32 o 0 (omega arith) (omega arith) (c .before .before .copy .ensures) ∙ ap (λ (h : List ℕ). paste o 0 h 32) (m .ensures) in
-    tells-wrote o (root-into-of sha256 (a .g) (length o) ∙ long (length o) (rootNow sha256 (a .g)) (omega arith)) (sym v) (over-whole (rootNow sha256 (a .g)) o v y)
+    reports-wrote o (root-into-of sha256 (a .g) (length o) ∙ long (length o) (rootNow sha256 (a .g)) (omega arith)) (sym v) (over-whole (rootNow sha256 (a .g)) o v y)
 
 pub root-into-spec : {M : Type 1} → statement M
 root-into-spec =

@@ -9,10 +9,14 @@ use Rattle.mta.specs.Entries.{writtenAfter, collidedAfter}
 use Rattle.mta.proofs.mta_carry.Statement.{statement}
 use Rattle.mta.proofs.mta_carry.Tie as tie
 
+-- from the carrying back to the entry
+abbrev S : tie.After-carry → tie.Start
+S c = c .before .before .before .before .before .before .before .before .before .before
+
 returns : tie.Need-returns
 returns c =
     let b = c .before .before .before .before .before .before .before in
-    let a = b .before .before .before .before .before .before .before .before .before .before .args in
+    let a = S b .args in
     let r = b .carry .ensures in
     let e = ap carrying (sym (c .before .count .given .1)) ∙ r .0 in
     (ap number e, (r .1 .0, (r .1 .1, (ap (λ (t : Answer Moved). writtenAfter t (now (a .written))) e, ap (λ (t : Answer Moved). collidedAfter t (now (a .collided))) e))))
@@ -20,7 +24,7 @@ returns c =
 returns-2 : tie.Need-returns-2
 returns-2 c =
     let b = c .before .before .before .before .before .before in
-    let a = b .before .before .before .before .before .before .before .before .before .before .args in
+    let a = S b .args in
     let r = b .carry .ensures in
     let e = ap carrying (sym (c .enum-told .given .1)) ∙ r .0 in
     (ap number e, (r .1 .0, (r .1 .1, (ap (λ (t : Answer Moved). writtenAfter t (now (a .written))) e, ap (λ (t : Answer Moved). collidedAfter t (now (a .collided))) e))))
@@ -28,7 +32,7 @@ returns-2 c =
 returns-3 : tie.Need-returns-3
 returns-3 c =
     let b = c .before .before .before .before .before .before .before in
-    let a = b .before .before .before .before .before .before .before .before .before .before .args in
+    let a = S b .args in
     let r = b .carry .ensures in
     let e = ap carrying (sym (c .before .number .given .1)) ∙ r .0 in
     (ap number e, (r .1 .0, (r .1 .1, (ap (λ (t : Answer Moved). writtenAfter t (now (a .written))) e, ap (λ (t : Answer Moved). collidedAfter t (now (a .collided))) e))))

@@ -3,7 +3,8 @@ use denote.Ref.{now}
 use mathlib.Core.Path.{_≡_, ap, ap₂, _∙_}
 use native.Mathlib.Omega.{arith}
 use lib.ListN.{length}
-use lib.Seq.{take-length}
+use Rattle.octets.proofs.Putting.{put-over}
+use Rattle.octets.specs.Bytes.{over}
 use Rattle.hash.specs.Digest.{nodeHash}
 use Rattle.hash.proofs.Promises.{sha256-length}
 use Rattle.mta.proofs.Outcomes.{node-left, node-right, node-short, node-done}
@@ -19,20 +20,20 @@ returns-2 c = let a = c .before .before .before .before .before .args in node-ri
 returns-3 : tie.Need-returns-3
 returns-3 c = let a = c .before .before .before .before .before .before .args in node-short (now (a .left)) (now (a .right)) (now (a .out)) (c .before .before .if1 .left) (c .before .if2 .left) (c .if3 .taken)
 
-copy-requires : tie.Need-copy-requires
-copy-requires c κs = let l : length (c .before .before .before .node .result .bytes) ≡ 32 = ap length (c .before .before .before .node .ensures) ∙ sha256-length _ in omega arith
-
 returns-4 : tie.Need-returns-4
+unfolding over
 returns-4 c =
-    let a = c .before .before .before .before .before .before .before .before .before .before .before .before .before .before .before .args in
+    let i = c .before .before .before .before .before .before .before .before .before in
+    let a = i .before .before .before .before .before .before .args in
     let l = now (a .left) in
     let r = now (a .right) in
     let o = now (a .out) in
-    let b = c .before .before .before .before .before .before .node .result .bytes in
-    let e : b ≡ nodeHash l r = c .before .before .before .before .before .before .node .ensures ∙ ap₂ nodeHash (c .before .before .before .before .before .before .before .before .digest-from .ensures) (c .before .before .before .before .before .before .before .digest-from2 .ensures) in
+    let h = c .before .before .before .before .before .before in
+    let b = h .node .result .bytes in
+    let e : b ≡ nodeHash l r = h .node .ensures ∙ ap₂ nodeHash (h .before .before .digest-from .ensures) (h .before .digest-from2 .ensures) in
     let n : length b ≡ 32 = ap length e ∙ sha256-length _ in
-    let d = node-done l r o (c .before .before .before .before .before .before .before .before .before .before .before .if1 .left) (c .before .before .before .before .before .before .before .before .before .before .if2 .left) (c .before .before .before .before .before .before .before .before .before .if3 .left) in
-    (d .0, c .before .before .copy .ensures .1 ∙ rw (take-length b, n, e) (d .1))
+    let d = node-done l r o (i .before .before .if1 .left) (i .before .if2 .left) (i .if3 .left) in
+    (d .0, c .before .before .put .ensures ∙ put-over o b (omega (arith, n)) ∙ rw (n, e) (d .1))
 
 pub mta-node-spec : {M : Type 1} → statement M
-mta-node-spec = tie.close (tie.spec returns returns-2 returns-3 (λ c. search needs) (λ c. search needs) (λ c. search needs) (λ c. search needs) copy-requires (λ c. search needs) returns-4)
+mta-node-spec = tie.close (tie.spec returns returns-2 returns-3 (λ c. search needs) (λ c. search needs) (λ c. search needs) (λ c. search needs) (λ c. search needs) (λ c. search needs) returns-4)

@@ -13,7 +13,7 @@ use Rattle.auditor.specs.Heads.{sizeOf, rootOf, pathOf, headsOf}
 use Rattle.auditor.specs.Dispute.{onward, longestPath, follow, disputeReport, pairDisputed}
 use Rattle.octets.proofs.Putting.{over-start}
 use Rattle.auditor.proofs.Reading.{head-whole}
-use Rattle.auditor.proofs.Telling.{refused-tells, carried-refused, carried-collision, carried-path}
+use Rattle.auditor.proofs.Reporting.{reports-refused, carried-refused, carried-collision, carried-path}
 use Rattle.auditor.proofs.Following.{Left, rest-is, left-end, left-truncated, left-then}
 use Rattle.auditor.proofs.dispute.work.Statement.{statement}
 use Rattle.auditor.proofs.dispute.work.Tie as tie
@@ -27,11 +27,28 @@ abbrev μ-loop : tie.MeasureT-loop
 μ-loop place page1 path1 size root heads page2 path2 pair₀ leaf1 leaf2 path₀ len₀ held₀ m₀ at₀ pair path len held m at =
     length heads - at
 
+-- from the loop back to the entry, from a head that is carried over to the reading of its length, and to the loop
+abbrev S₀ : tie.After-root-of Inv-loop μ-loop → tie.Start Inv-loop μ-loop
+S₀ c = c .before .before .before .before .before .before .before .before .before .before .before .before .before .before
+
+abbrev S : tie.At-loop Inv-loop μ-loop → tie.Start Inv-loop μ-loop
+S c = S₀ (c .before)
+
+abbrev O : tie.After-over-head Inv-loop μ-loop → tie.After-head-bytes Inv-loop μ-loop
+O c = c .before .before .before .before .before .before .before .before
+
+abbrev K : tie.After-over-head Inv-loop μ-loop → tie.At-loop Inv-loop μ-loop
+K c = O c .before .before .before
+
+-- from the next root back to the head
+abbrev N : tie.After-root-of2 Inv-loop μ-loop → tie.After-over-head Inv-loop μ-loop
+N c = c .before .before .before .before .before .before .before .before .before
+
 loop-holds : tie.Need-loop-holds Inv-loop μ-loop
 loop-holds c =
-    let a = c .before .before .before .before .before .before .before .before .before .before .before .before .before .before .args in (
+    let a = S₀ c .args in (
       omega arith,
-      c .before .before .before .before .before .before .before .before .before .before .before .before .before .before .pre .0,
+      S₀ c .pre .0,
       search needs,
       search needs,
       refl,
@@ -43,14 +60,16 @@ loop-holds c =
 
 returns : tie.Need-returns Inv-loop μ-loop
 returns c =
-    let a = c .before .before .before .before .before .before .before .before .before .before .before .before .before .before .before .before .before .before .before .args in
-    let L = c .before .before .before .before .loop in
-    let e = sym (L .inv .6) ∙ left-truncated sha256 (a .place) (now (a .page1)) (now (a .page2)) (now (a .path2)) (now (a .heads)) (length (now (a .pair))) (L .at) (L .m) (L .held) (take (L .len) (L .path)) _ (rest-is (now (a .heads)) (L .at)) _ (c .before .head-bytes .ensures) (c .before .before .before .loop-test .taken) (c .if1 .taken) in
-    let t = refused-tells _ 2 (now (a .pair)) e in
+    let h = c .before in
+    let k = h .before .before .before in
+    let a = S k .args in
+    let L = k .loop in
+    let e = sym (L .inv .6) ∙ left-truncated sha256 (a .place) (now (a .page1)) (now (a .page2)) (now (a .path2)) (now (a .heads)) (length (now (a .pair))) (L .at) (L .m) (L .held) (take (L .len) (L .path)) _ (rest-is (now (a .heads)) (L .at)) _ (h .head-bytes .ensures) (h .before .before .loop-test .taken) (c .if1 .taken) in
+    let t = reports-refused _ 2 (now (a .pair)) e in
     (t .0, L .inv .5 ∙ t .1)
 
 array-share-prefix-path : tie.Need-array-share-prefix-path Inv-loop μ-loop
-array-share-prefix-path c = omega (arith, c .before .before .before .before .before .before .before .loop .inv .1, c .before .before .before .before .before .before .before .loop .inv .2)
+array-share-prefix-path c = let L = c .before .before .before .before .before .before .before .loop in omega (arith, L .inv .1, L .inv .2)
 
 slice-aggregate-over-head-3 : tie.Need-slice-aggregate-over-head-3 Inv-loop μ-loop
 slice-aggregate-over-head-3 c =
@@ -59,82 +78,88 @@ slice-aggregate-over-head-3 c =
 
 over-head-requires : tie.Need-over-head-requires Inv-loop μ-loop
 over-head-requires c κs =
-    let w = head-whole _ _ (c .before .before .before .before .before .before .before .head-bytes .ensures) (c .before .before .before .before .before .before .if1 .left) in
+    let g = c .before .before .before .before .before .before in
+    let w = head-whole _ _ (g .before .head-bytes .ensures) (g .if1 .left) in
     (w .0, w .1, w .2, c .before .before .before .before .before .path-buffer2 .ensures)
 
 -- one head: the whole is what carrying by it leads to
 turn : (c : tie.After-over-head Inv-loop μ-loop) →
-    (let a = c .before .before .before .before .before .before .before .before .before .before .before .before .before .before .before .before .before .before .before .before .before .before .before .before .before .before .args in
-    let L = c .before .before .before .before .before .before .before .before .before .before .before .loop in
+    (let a = S (K c) .args in
+    let L = K c .loop in
     let rest = take (length (now (a .heads)) - L .at) (drop (L .at) (now (a .heads))) in
     Left sha256 (a .place) (now (a .page1)) (now (a .page2)) (now (a .path2)) (now (a .heads)) (length (now (a .pair))) 0 (a .size) (now (a .root)) (now (a .path1))
     ≡ onward (carry sha256 (a .one .bytes) (a .place) (L .m) (sizeOf rest) (L .held) (rootOf rest) (take (L .len) (L .path)) (pathOf rest) longestPath (length (L .pair)))
-    (follow sha256 (a .place) (now (a .page1)) (now (a .page2)) (now (a .path2)) (length (now (a .pair))) (headsOf (drop (L .at + c .before .before .before .before .before .before .before .before .head-bytes .result) (now (a .heads)))) (sizeOf rest) (rootOf rest)))
+    (follow sha256 (a .place) (now (a .page1)) (now (a .page2)) (now (a .path2)) (length (now (a .pair))) (headsOf (drop (L .at + O c .head-bytes .result) (now (a .heads)))) (sizeOf rest) (rootOf rest)))
 turn c =
-    let a = c .before .before .before .before .before .before .before .before .before .before .before .before .before .before .before .before .before .before .before .before .before .before .before .before .before .before .args in
-    let L = c .before .before .before .before .before .before .before .before .before .before .before .loop in
-    sym (L .inv .6) ∙ left-then sha256 (a .place) (now (a .page1)) (now (a .page2)) (now (a .path2)) (now (a .heads)) (length (now (a .pair))) (L .at) (L .m) (L .held) (take (L .len) (L .path)) _ (rest-is (now (a .heads)) (L .at)) _ (c .before .before .before .before .before .before .before .before .head-bytes .ensures) (a .one .bytes) (length (L .pair)) (c .before .before .before .before .before .before .before .if1 .left) (c .before .before .before .before .before .before .before .before .before .before .before .before .before .before .before .before .before .before .before .before .before .before .before .before .before .before .pre .2) (L .inv .4)
+    let a = S (K c) .args in
+    let L = K c .loop in
+    sym (L .inv .6) ∙ left-then sha256 (a .place) (now (a .page1)) (now (a .page2)) (now (a .path2)) (now (a .heads)) (length (now (a .pair))) (L .at) (L .m) (L .held) (take (L .len) (L .path)) _ (rest-is (now (a .heads)) (L .at)) _ (O c .head-bytes .ensures) (a .one .bytes) (length (L .pair)) (c .before .before .before .before .before .before .before .if1 .left) (S (K c) .pre .2) (L .inv .4)
 
 returns-2 : tie.Need-returns-2 Inv-loop μ-loop
 returns-2 c =
-    let L = c .before .before .before .before .before .before .before .before .before .before .before .before .before .before .before .before .before .loop in
-    let d = c .before .before .before .before .before .before .over-head .ensures in
+    let o = c .before .before .before .before .before .before in
+    let L = K o .loop in
+    let d = o .over-head .ensures in
     let q = carried-refused _ _ _ (ap carrying (sym (c .before .carried .given .1)) ∙ d .0) in
-    let t = refused-tells _ _ (now (c .before .before .before .before .before .before .before .before .before .before .before .before .before .before .before .before .before .before .before .before .before .before .before .before .before .before .before .before .before .before .before .before .args .pair)) (turn (c .before .before .before .before .before .before) ∙ q .0) in
+    let t = reports-refused _ _ (now (S (K o) .args .pair)) (turn o ∙ q .0) in
     (t .0, d .1 .1 ∙ q .1 (L .pair) ∙ L .inv .5 ∙ t .1)
 
 returns-3 : tie.Need-returns-3 Inv-loop μ-loop
 returns-3 c =
-    let L = c .before .before .before .before .before .before .before .before .before .before .before .before .before .before .before .before .loop in
-    let d = c .before .before .before .before .before .over-head .ensures in
-    let e = turn (c .before .before .before .before .before) in
+    let o = c .before .before .before .before .before in
+    let L = K o .loop in
+    let d = o .over-head .ensures in
+    let e = turn o in
     let q = carried-collision _ _ (L .pair) (ap carrying (sym (c .enum-told .given .1)) ∙ d .0) in
     (q .0 ∙ ap disputeReport (sym e), d .1 .1 ∙ q .1 ∙ ap₂ pairDisputed (sym e) (L .inv .5))
 
 size-of-requires : tie.Need-size-of-requires Inv-loop μ-loop
 size-of-requires c κs =
-    let w = head-whole _ _ (c .before .before .before .before .before .before .before .before .before .before .before .before .before .before .head-bytes .ensures) (c .before .before .before .before .before .before .before .before .before .before .before .before .before .if1 .left) in
+    let o = c .before .before .before .before .before .before in
+    let w = head-whole _ _ (O o .head-bytes .ensures) (o .before .before .before .before .before .before .before .if1 .left) in
     omega (arith, w .0, w .1)
 
 part-root-of-end : tie.Need-part-root-of-end Inv-loop μ-loop
 part-root-of-end c =
-    let w = head-whole _ _ (c .before .before .before .before .before .before .before .before .before .before .before .before .before .before .before .head-bytes .ensures) (c .before .before .before .before .before .before .before .before .before .before .before .before .before .before .if1 .left) in
+    let o = c .before .before .before .before .before .before .before in
+    let w = head-whole _ _ (O o .head-bytes .ensures) (o .before .before .before .before .before .before .before .if1 .left) in
     omega (arith, w .0, w .1)
 
 within : (n : ℕ) (o : List ℕ) → n ≤ length o → length o ≡ longestPath → n ≤ longestPath
 within n o h e = omega arith
 
 -- the next place is within the buffer
-next : (c : tie.After-root-of2 Inv-loop μ-loop) → c .before .before .before .before .before .before .before .before .before .before .before .before .before .before .before .before .before .before .before .before .loop .at + c .before .before .before .before .before .before .before .before .before .before .before .before .before .before .before .before .before .head-bytes .result ≤ length (now (c .before .before .before .before .before .before .before .before .before .before .before .before .before .before .before .before .before .before .before .before .before .before .before .before .before .before .before .before .before .before .before .before .before .before .before .args .heads))
+next : (c : tie.After-root-of2 Inv-loop μ-loop) → K (N c) .loop .at + O (N c) .head-bytes .result ≤ length (now (S (K (N c)) .args .heads))
 next c =
-    let s = now (c .before .before .before .before .before .before .before .before .before .before .before .before .before .before .before .before .before .before .before .before .before .before .before .before .before .before .before .before .before .before .before .before .before .before .before .args .heads) in
-    let at = c .before .before .before .before .before .before .before .before .before .before .before .before .before .before .before .before .before .before .before .before .loop .at in
-    let w = head-whole _ _ (c .before .before .before .before .before .before .before .before .before .before .before .before .before .before .before .before .before .head-bytes .ensures) (c .before .before .before .before .before .before .before .before .before .before .before .before .before .before .before .before .if1 .left) in
-    omega (arith, w .1, ap length (rest-is s at), length-drop at s, c .before .before .before .before .before .before .before .before .before .before .before .before .before .before .before .before .before .before .before .loop-test .taken)
+    let k = K (N c) in
+    let s = now (S k .args .heads) in
+    let w = head-whole _ _ (O (N c) .head-bytes .ensures) (N c .before .before .before .before .before .before .before .if1 .left) in
+    omega (arith, w .1, ap length (rest-is s (k .loop .at)), length-drop (k .loop .at) s, O (N c) .before .before .loop-test .taken)
 
 add-at : tie.Need-add-at Inv-loop μ-loop
-add-at c = omega (arith, next c, c .before .before .before .before .before .before .before .before .before .before .before .before .before .before .before .before .before .before .before .before .before .before .before .before .before .before .before .before .before .before .before .before .before .before .before .good)
+add-at c = omega (arith, next c, S (K (N c)) .good)
 
 loop-less : tie.Need-loop-less Inv-loop μ-loop
 loop-less c =
-    let w = head-whole _ _ (c .before .before .before .before .before .before .before .before .before .before .before .before .before .before .before .before .before .head-bytes .ensures) (c .before .before .before .before .before .before .before .before .before .before .before .before .before .before .before .before .if1 .left) in
-    omega (arith, w .0, c .before .before .before .before .before .before .before .before .before .before .before .before .before .before .before .before .before .before .before .loop-test .taken)
+    let w = head-whole _ _ (O (N c) .head-bytes .ensures) (N c .before .before .before .before .before .before .before .if1 .left) in
+    omega (arith, w .0, O (N c) .before .before .loop-test .taken)
 
 loop-again : tie.Need-loop-again Inv-loop μ-loop
 loop-again c =
-    let a = c .before .before .before .before .before .before .before .before .before .before .before .before .before .before .before .before .before .before .before .before .before .before .before .before .before .before .before .before .before .before .before .before .before .before .before .args in
-    let L = c .before .before .before .before .before .before .before .before .before .before .before .before .before .before .before .before .before .before .before .before .loop in
-    let d = c .before .before .before .before .before .before .before .before .before .over-head .ensures in
+    let o = N c in
+    let a = S (K o) .args in
+    let L = K o .loop in
+    let d = o .over-head .ensures in
     let rest = take (length (now (a .heads)) - L .at) (drop (L .at) (now (a .heads))) in
-    let q = carried-path _ (follow sha256 (a .place) (now (a .page1)) (now (a .page2)) (now (a .path2)) (length (now (a .pair))) (headsOf (drop (L .at + c .before .before .before .before .before .before .before .before .before .before .before .before .before .before .before .before .before .head-bytes .result) (now (a .heads)))) (sizeOf rest) (rootOf rest)) _ _ _ (ap carrying (sym (c .before .before .before .before .carried2 .given .1)) ∙ d .0) (d .1 .0) in
+    let q = carried-path _ (follow sha256 (a .place) (now (a .page1)) (now (a .page2)) (now (a .path2)) (length (now (a .pair))) (headsOf (drop (L .at + O o .head-bytes .result) (now (a .heads)))) (sizeOf rest) (rootOf rest)) _ _ _ (ap carrying (sym (c .before .before .before .before .carried2 .given .1)) ∙ d .0) (d .1 .0) in
     let t = d .1 .1 ∙ q .2 (L .pair) ∙ L .inv .5 in (
       next c,
-      within _ (c .before .before .before .before .before .before .before .before .before .over-head .last .1 .1 .1 .1 .1 .1 .1 .0) (q .1) (search needs),
+      within _ (o .over-head .last .1 .1 .1 .1 .1 .1 .1 .0) (q .1) (search needs),
       search needs,
       search needs,
       ap length t,
       t,
-      rw (c .before .before .size-of .ensures, c .root-of2 .ensures) (sym (q .0) ∙ sym (turn (c .before .before .before .before .before .before .before .before .before))),
+      rw (c .before .before .size-of .ensures, c .root-of2 .ensures) (sym (q .0) ∙ sym (turn o)),
     )
 
 slice-aggregate-settle-3 : tie.Need-slice-aggregate-settle-3 Inv-loop μ-loop
@@ -144,10 +169,11 @@ slice-aggregate-settle-3 c =
 
 returns-4 : tie.Need-returns-4 Inv-loop μ-loop
 returns-4 c =
-    let a = c .before .before .before .before .before .before .before .before .before .before .before .before .before .before .before .before .before .before .before .before .before .before .before .before .args in
-    let L = c .before .before .before .before .before .before .before .before .before .loop in
+    let k = c .before .before .before .before .before .before .before .before .before in
+    let a = S k .args in
+    let L = k .loop in
     let d = c .before .before .settle .ensures in
-    let e = sym (L .inv .6) ∙ left-end sha256 (a .place) (now (a .page1)) (now (a .page2)) (now (a .path2)) (now (a .heads)) (length (now (a .pair))) (L .at) (L .m) (L .held) (take (L .len) (L .path)) (a .one .bytes) (a .two .bytes) (length (L .pair)) (c .before .before .before .before .before .before .before .before .loop-test .left) (c .before .before .before .before .before .before .before .before .before .before .before .before .before .before .before .before .before .before .before .before .before .before .before .before .pre .2) (c .before .before .before .before .before .before .before .before .before .before .before .before .before .before .before .before .before .before .before .before .before .before .before .before .pre .3) (L .inv .4) in
+    let e = sym (L .inv .6) ∙ left-end sha256 (a .place) (now (a .page1)) (now (a .page2)) (now (a .path2)) (now (a .heads)) (length (now (a .pair))) (L .at) (L .m) (L .held) (take (L .len) (L .path)) (a .one .bytes) (a .two .bytes) (length (L .pair)) (c .before .before .before .before .before .before .before .before .loop-test .left) (S k .pre .2) (S k .pre .3) (L .inv .4) in
     (d .0 ∙ ap disputeReport (sym e), d .1 ∙ ap₂ pairDisputed (sym e) (L .inv .5))
 
 pub work-spec : {M : Type 1} → statement M

@@ -4,14 +4,14 @@ use denote.Ref.{now}
 use borrow.Author.Needs.{needs}
 use Rattle.hash.specs.Digest.{sha256}
 use Rattle.auditor.specs.Held.{view}
-use Rattle.auditor.proofs.Offering.{passed, tells-refused, tells-accepted}
+use Rattle.auditor.proofs.Offering.{passed, reports-refused, reports-accepted}
 use Rattle.auditor.proofs.head.offer.Statement.{statement}
 use Rattle.auditor.proofs.head.offer.Tie as tie
 
 returns : tie.Need-returns
 returns c =
     let a = c .before .before .before .before .before .before .args in
-    c .unchanged .ensures ∙ tells-refused (a .r) (now (a .id)) (a .timestamp) (a .size) (now (a .root)) (now (a .path)) _ (c .before .before .number .ensures) (c .before .if1 .taken)
+    c .unchanged .ensures ∙ reports-refused (a .r) (now (a .id)) (a .timestamp) (a .size) (now (a .root)) (now (a .path)) _ (c .before .before .number .ensures) (c .before .if1 .taken)
 
 id-of-requires : tie.Need-id-of-requires
 id-of-requires c κs =
@@ -26,7 +26,7 @@ root-of-requires c κs =
 returns-2 : tie.Need-returns-2
 returns-2 c =
     let a = c .before .before .before .before .before .before .before .args in
-    tells-accepted (a .r) (now (a .id)) (a .timestamp) (a .size) (now (a .root)) (now (a .path)) _ (c .before .before .before .number .ensures) _ _ _ (c .before .before .if1 .left) (c .before .id-of .ensures) (c .root-of .ensures) refl
+    reports-accepted (a .r) (now (a .id)) (a .timestamp) (a .size) (now (a .root)) (now (a .path)) _ (c .before .before .before .number .ensures) _ _ _ (c .before .before .if1 .left) (c .before .id-of .ensures) (c .root-of .ensures) refl
 
 pub offer-spec : {M : Type 1} → statement M
 offer-spec = tie.close (tie.spec (λ c κs. search needs) (λ c κs. search needs) returns id-of-requires root-of-requires returns-2)

@@ -7,34 +7,34 @@ use denote.Ref.{now}
 use borrow.Author.Needs.{needs}
 use Rattle.octets.specs.Answer.{done}
 use Rattle.auditor.specs.Journal.{appendReport, journalAfter}
-use Rattle.auditor.proofs.Journaling.{head-length, root-short, path-long, path-part, full, fits, refused-tells}
+use Rattle.auditor.proofs.Journaling.{head-length, root-short, path-long, path-part, full, fits, reports-refused}
 use Rattle.auditor.proofs.journal.append.Statement.{statement}
 use Rattle.auditor.proofs.journal.append.Tie as tie
 
 returns : tie.Need-returns
 returns c =
     let a = c .before .before .before .before .args in
-    refused-tells (a .used) _ _ (now (a .journal)) (root-short (length (now (a .journal))) (a .used) (a .size) (now (a .root)) (now (a .path)) (c .if1 .taken))
+    reports-refused (a .used) _ _ (now (a .journal)) (root-short (length (now (a .journal))) (a .used) (a .size) (now (a .root)) (now (a .path)) (c .if1 .taken))
 
 returns-2 : tie.Need-returns-2
 returns-2 c =
     let a = c .before .before .before .before .before .args in
-    refused-tells (a .used) _ _ (now (a .journal)) (path-long (length (now (a .journal))) (a .used) (a .size) (now (a .root)) (now (a .path)) (c .before .if1 .left) (c .if2 .taken))
+    reports-refused (a .used) _ _ (now (a .journal)) (path-long (length (now (a .journal))) (a .used) (a .size) (now (a .root)) (now (a .path)) (c .before .if1 .left) (c .if2 .taken))
 
 returns-3 : tie.Need-returns-3
 returns-3 c =
     let a = c .before .before .before .before .before .before .args in
-    refused-tells (a .used) _ _ (now (a .journal)) (path-part (length (now (a .journal))) (a .used) (a .size) (now (a .root)) (now (a .path)) (c .before .before .if1 .left) (c .before .if2 .left) (c .if3 .taken))
+    reports-refused (a .used) _ _ (now (a .journal)) (path-part (length (now (a .journal))) (a .used) (a .size) (now (a .root)) (now (a .path)) (c .before .before .if1 .left) (c .before .if2 .left) (c .if3 .taken))
 
 returns-4 : tie.Need-returns-4
 returns-4 c =
     let a = c .before .before .before .before .before .before .before .args in
-    refused-tells (a .used) _ _ (now (a .journal)) (full (length (now (a .journal))) (a .used) (a .size) (now (a .root)) (now (a .path)) (c .before .before .before .if1 .left) (c .before .before .if2 .left) (c .before .if3 .left) (omega (arith, c .if4 .taken)))
+    reports-refused (a .used) _ _ (now (a .journal)) (full (length (now (a .journal))) (a .used) (a .size) (now (a .root)) (now (a .path)) (c .before .before .before .if1 .left) (c .before .before .if2 .left) (c .before .if3 .left) (omega (arith, c .if4 .taken)))
 
 returns-5 : tie.Need-returns-5
 returns-5 c =
     let a = c .before .before .before .before .before .before .before .before .args in
-    refused-tells (a .used) _ _ (now (a .journal)) (full (length (now (a .journal))) (a .used) (a .size) (now (a .root)) (now (a .path)) (c .before .before .before .before .if1 .left) (c .before .before .before .if2 .left) (c .before .before .if3 .left) (omega (arith, c .if5 .taken, c .before .if4 .left)))
+    reports-refused (a .used) _ _ (now (a .journal)) (full (length (now (a .journal))) (a .used) (a .size) (now (a .root)) (now (a .path)) (c .before .before .before .before .if1 .left) (c .before .before .before .if2 .left) (c .before .before .if3 .left) (omega (arith, c .if5 .taken, c .before .if4 .left)))
 
 returns-6 : tie.Need-returns-6
 unfolding appendReport journalAfter

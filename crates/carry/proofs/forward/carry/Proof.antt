@@ -2,7 +2,7 @@
 use mathlib.Core.Path.{_≡_, refl, sym, ap, _∙_}
 use mathlib.Core.Bool.{false≢true}
 use mathlib.Core.List.{_++_}
-use Prim.Native.Nat.{_+_, _-_, _*_, _/_}
+use Prim.Native.Nat.{_+_, _-_, _*_, _/_, _≤_}
 use native.Mathlib.Omega.{arith}
 use lib.ListN.{length, take, drop}
 use denote.Ref.{now}
@@ -11,12 +11,72 @@ use borrow.Author.Tests.{not-true, not-false}
 use Rattle.hash.specs.Digest.{sha256}
 use Rattle.hash.proofs.Promises.{sha256-length}
 use Rattle.tree.specs.Count.{inclusionCount, consistencyCount}
-use Rattle.tree.specs.Joined.{joined}
-use Rattle.carry.specs.Inner.{pathAs}
+use Rattle.tree.specs.Joined.{joined, nodes}
+use Rattle.tree.specs.Verdict.{inclusionVerdict, consistencyVerdict}
+use Rattle.carry.specs.declared.walk.Walked.{Walked}
+use Rattle.carry.specs.Forward.{conflict, forward}
+use Rattle.carry.specs.Inner.{Fit, differenceOf, pathFrom, pathAs}
 use Rattle.carry.proofs.Pairing.{difference-apart, difference-alike}
-use Rattle.carry.proofs.Carrying.{both, one-refused, fit-of, agree-of, accepted-by, path-short, pair-short, long, tells-refused, tells-apart, tells-path, difference-walked, path-walked, pieces, counted-pieces, new-path}
+use Rattle.carry.proofs.Carrying.{Both, both, one-refused, fit-of, agree-of, accepted-by, path-short, pair-short, long, reports-refused, reports-apart, reports-path, difference-walked, path-walked, pieces, counted-pieces, new-path}
 use Rattle.carry.proofs.forward.carry.Statement.{statement}
 use Rattle.carry.proofs.forward.carry.Tie as tie
+
+-- from the test that the two proofs fit back to the entry, from the walk to that test, and from the test that the roots agree to the walk
+abbrev S : tie.After-fits2 → tie.Start
+S c = c .before .before .before .before .before .before .before .before
+
+abbrev F : tie.After-walk → tie.After-fits2
+F c = c .before .before .before .before
+
+abbrev W : tie.After-agree → tie.After-walk
+W c = c .before .before .before .before .before
+
+-- the two proofs fit
+fit-at : (c : tie.Else1) →
+    (let a = S (c .before) .args in
+    Fit (length (now (a .leaf))) (a .place) (a .m) (a .n) (length (now (a .old))) (length (now (a .new))) (length (now (a .path))) (length (now (a .proof))))
+fit-at c = c .before .fits2 .ensures .0 (not-false (c .before .fits2 .result) (c .if1 .left))
+
+-- what is known where the roots agree
+module _ (c : tie.Else2) where
+  abbrev l : tie.After-walk
+  l = W (c .before)
+
+  abbrev s : tie.Start
+  s = S (F l)
+
+  abbrev w : Walked
+  w = l .walk .result
+
+  accepted : (inclusionVerdict sha256 (now (s .args .leaf)) (s .args .place) (s .args .m) (now (s .args .old)) (now (s .args .path)) ≡ 0)
+      × (consistencyVerdict sha256 (s .args .m) (s .args .n) (now (s .args .old)) (now (s .args .new)) (now (s .args .proof)) ≡ 0)
+  accepted =
+      let r = c .before .agree in
+      let e = l .walk .ensures in
+      accepted-by sha256 (now (s .args .leaf)) (s .args .place) (s .args .m) (s .args .n) (now (s .args .old)) (now (s .args .new)) (now (s .args .path)) (now (s .args .proof)) (fit-at (l .before .before .before)) (l .before .before .node-at .ensures) (l .before .node-at2 .ensures)
+      (e .0) (e .1 .0) (e .1 .1 .0) (r .ensures .0 (not-false (r .result) (c .if2 .left)))
+
+  two : Both (now (s .args .leaf)) (s .args .place) (s .args .m) (s .args .n) (now (s .args .old)) (now (s .args .path)) (now (s .args .proof))
+  two = both sha256 (now (s .args .leaf)) (s .args .place) (s .args .m) (s .args .n) (now (s .args .old)) (now (s .args .new)) (now (s .args .path)) (now (s .args .proof)) (sym (accepted .0)) refl (sym (accepted .1)) refl
+
+  within : (w .low ≤ length (now (s .args .path)) / 32) × (w .hashed ≤ 1) × (w .high ≤ length (now (s .args .proof)) / 32)
+  within = l .walk .ensures .1 .1 .1 .1 .1
+
+  whole : length (now (s .args .proof)) ≡ 32 * (length (now (s .args .proof)) / 32)
+  whole = omega (arith, two .proof-length, two .proof-count)
+
+  difference : differenceOf (w .recomputed) ≡ conflict sha256 (s .args .m) (s .args .n) (s .args .place) (now (s .args .leaf)) (nodes (now (s .args .path))) (now (s .args .old)) (nodes (now (s .args .proof)))
+  difference = difference-walked sha256 (now (s .args .leaf)) (s .args .place) (s .args .m) (s .args .n) (now (s .args .old)) (now (s .args .path)) (now (s .args .proof)) two (l .before .before .node-at .ensures) (l .before .node-at2 .ensures) (l .walk .ensures .1 .1 .1 .0)
+
+  new-nodes : pathFrom (w .low) (w .hashed) (w .sibling .bytes) (w .high) (now (s .args .path)) (now (s .args .proof)) (length (now (s .args .proof)) / 32)
+      ≡ forward sha256 (s .args .m) (s .args .n) (s .args .place) (nodes (now (s .args .path))) (now (s .args .old)) (nodes (now (s .args .proof)))
+  unfolding pathAs
+  new-nodes = path-walked sha256 (now (s .args .leaf)) (s .args .place) (s .args .m) (s .args .n) (now (s .args .old)) (now (s .args .path)) (now (s .args .proof)) two (l .before .before .node-at .ensures) (l .before .node-at2 .ensures) (l .walk .ensures .1 .1 .1 .1 .0)
+
+  number : w .low + w .hashed + (length (now (s .args .proof)) / 32 - w .high) ≡ inclusionCount (s .args .place) (s .args .n)
+  number =
+      sym (counted-pieces (w .low) (w .hashed) (w .sibling .bytes) (w .high) (now (s .args .path)) (now (s .args .proof)) (length (now (s .args .proof)) / 32) whole (within .2))
+      ∙ ap length new-nodes ∙ new-path sha256 sha256-length (now (s .args .leaf)) (s .args .place) (s .args .m) (s .args .n) (now (s .args .old)) (now (s .args .new)) (now (s .args .path)) (now (s .args .proof)) (accepted .0) (accepted .1) .1
 
 fits-requires : tie.Need-fits-requires
 fits-requires c κs = search needs
@@ -26,8 +86,10 @@ refusal-requires c κs = search needs
 
 returns : tie.Need-returns
 returns c =
-    let a = c .before .before .before .before .before .before .before .before .before .before .args in
-    let t = tells-refused (now (a .out)) (now (a .pair)) (one-refused sha256 (now (a .leaf)) (a .place) (a .m) (a .n) (now (a .old)) (now (a .new)) (now (a .path)) (now (a .proof)) (length (now (a .out))) (length (now (a .pair))) (λ v w. false≢true (sym (not-true (c .before .before .fits2 .result) (c .before .if1 .taken)) ∙ c .before .before .fits2 .ensures .1 (fit-of sha256 (now (a .leaf)) (a .place) (a .m) (a .n) (now (a .old)) (now (a .new)) (now (a .path)) (now (a .proof)) v w)))) in
+    let f = c .before .before in
+    let a = S f .args in
+    let t = reports-refused (now (a .out)) (now (a .pair)) (one-refused sha256 (now (a .leaf)) (a .place) (a .m) (a .n) (now (a .old)) (now (a .new)) (now (a .path)) (now (a .proof)) (length (now (a .out))) (length (now (a .pair)))
+    (λ v w. false≢true (sym (not-true (f .fits2 .result) (c .before .if1 .taken)) ∙ f .fits2 .ensures .1 (fit-of sha256 (now (a .leaf)) (a .place) (a .m) (a .n) (now (a .old)) (now (a .new)) (now (a .path)) (now (a .proof)) v w)))) in
     (c .refusal .ensures ∙ t .0, t .1)
 
 node-at-requires : tie.Need-node-at-requires
@@ -39,8 +101,7 @@ node-at-requires-2 c κs = search needs
 walk-requires : tie.Need-walk-requires
 unfolding consistencyCount
 walk-requires c κs =
-    let a = c .before .before .before .before .before .before .before .before .before .before .before .args in
-    let fit = c .before .before .before .fits2 .ensures .0 (not-false (c .before .before .before .fits2 .result) (c .before .before .if1 .left)) in
+    let fit = fit-at (c .before .before) in
     let i = fit .path-length in
     let j = fit .proof-length in
     (fit .below, fit .order, omega (arith, i), omega (arith, i), omega (arith, j), omega (arith, j))
@@ -53,71 +114,36 @@ refusal-requires-2 c κs = search needs
 
 returns-2 : tie.Need-returns-2
 returns-2 c =
-    let a = c .before .before .before .before .before .before .before .before .before .before .before .before .before .before .before .before .before .before .before .args in
-    let fit = c .before .before .before .before .before .before .before .before .before .before .before .fits2 .ensures .0 (not-false (c .before .before .before .before .before .before .before .before .before .before .before .fits2 .result) (c .before .before .before .before .before .before .before .before .before .before .if1 .left)) in
-    let t = tells-refused (now (a .out)) (now (a .pair)) (one-refused sha256 (now (a .leaf)) (a .place) (a .m) (a .n) (now (a .old)) (now (a .new)) (now (a .path)) (now (a .proof)) (length (now (a .out))) (length (now (a .pair))) (λ v w. false≢true (sym (not-true (c .before .before .agree .result) (c .before .if2 .taken)) ∙ c .before .before .agree .ensures .1 (agree-of sha256 (now (a .leaf)) (a .place) (a .m) (a .n) (now (a .old)) (now (a .new)) (now (a .path)) (now (a .proof)) fit (c .before .before .before .before .before .before .before .before .before .node-at .ensures) (c .before .before .before .before .before .before .before .before .node-at2 .ensures) (c .before .before .before .before .before .before .before .walk .ensures .0) (c .before .before .before .before .before .before .before .walk .ensures .1 .0) (c .before .before .before .before .before .before .before .walk .ensures .1 .1 .0) v w)))) in
+    let r = c .before .before in
+    let l = W r in
+    let a = S (F l) .args in
+    let e = l .walk .ensures in
+    let t = reports-refused (now (a .out)) (now (a .pair)) (one-refused sha256 (now (a .leaf)) (a .place) (a .m) (a .n) (now (a .old)) (now (a .new)) (now (a .path)) (now (a .proof)) (length (now (a .out))) (length (now (a .pair)))
+    (λ v w. false≢true (sym (not-true (r .agree .result) (c .before .if2 .taken)) ∙ r .agree .ensures .1 (agree-of sha256 (now (a .leaf)) (a .place) (a .m) (a .n) (now (a .old)) (now (a .new)) (now (a .path)) (now (a .proof)) (fit-at (l .before .before .before)) (l .before .before .node-at .ensures) (l .before .node-at2 .ensures) (e .0) (e .1 .0) (e .1 .1 .0) v w)))) in
     (c .refusal2 .ensures ∙ t .0, t .1)
 
 add-if3 : tie.Need-add-if3
-add-if3 c =
-    let a = c .before .before .before .before .before .before .before .before .before .before .before .before .before .before .before .before .before .before .args in
-    let fit = c .before .before .before .before .before .before .before .before .before .before .fits2 .ensures .0 (not-false (c .before .before .before .before .before .before .before .before .before .before .fits2 .result) (c .before .before .before .before .before .before .before .before .before .if1 .left)) in
-    let y = accepted-by sha256 (now (a .leaf)) (a .place) (a .m) (a .n) (now (a .old)) (now (a .new)) (now (a .path)) (now (a .proof)) fit (c .before .before .before .before .before .before .before .before .node-at .ensures) (c .before .before .before .before .before .before .before .node-at2 .ensures) (c .before .before .before .before .before .before .walk .ensures .0) (c .before .before .before .before .before .before .walk .ensures .1 .0) (c .before .before .before .before .before .before .walk .ensures .1 .1 .0) (c .before .agree .ensures .0 (not-false (c .before .agree .result) (c .if2 .left))) in
-    let t = both sha256 (now (a .leaf)) (a .place) (a .m) (a .n) (now (a .old)) (now (a .new)) (now (a .path)) (now (a .proof)) (sym (y .0)) refl (sym (y .1)) refl in
-    let o = c .before .before .before .before .before .before .walk .ensures .1 .1 .1 .1 .1 in
-    omega (arith, o, t .path-count, t .proof-count, t .path-most, t .proof-most)
+add-if3 c = let t = two c in omega (arith, within c, t .path-count, t .proof-count, t .path-most, t .proof-most)
 
 sub-if3 : tie.Need-sub-if3
-sub-if3 c =
-    let a = c .before .before .before .before .before .before .before .before .before .before .before .before .before .before .before .before .before .before .args in
-    let fit = c .before .before .before .before .before .before .before .before .before .before .fits2 .ensures .0 (not-false (c .before .before .before .before .before .before .before .before .before .before .fits2 .result) (c .before .before .before .before .before .before .before .before .before .if1 .left)) in
-    let y = accepted-by sha256 (now (a .leaf)) (a .place) (a .m) (a .n) (now (a .old)) (now (a .new)) (now (a .path)) (now (a .proof)) fit (c .before .before .before .before .before .before .before .before .node-at .ensures) (c .before .before .before .before .before .before .before .node-at2 .ensures) (c .before .before .before .before .before .before .walk .ensures .0) (c .before .before .before .before .before .before .walk .ensures .1 .0) (c .before .before .before .before .before .before .walk .ensures .1 .1 .0) (c .before .agree .ensures .0 (not-false (c .before .agree .result) (c .if2 .left))) in
-    let t = both sha256 (now (a .leaf)) (a .place) (a .m) (a .n) (now (a .old)) (now (a .new)) (now (a .path)) (now (a .proof)) (sym (y .0)) refl (sym (y .1)) refl in
-    let o = c .before .before .before .before .before .before .walk .ensures .1 .1 .1 .1 .1 in
-    omega (arith, o, t .path-count, t .proof-count, t .path-most, t .proof-most)
+sub-if3 c = let t = two c in omega (arith, within c, t .path-count, t .proof-count, t .path-most, t .proof-most)
 
 add-if3-2 : tie.Need-add-if3-2
-add-if3-2 c =
-    let a = c .before .before .before .before .before .before .before .before .before .before .before .before .before .before .before .before .before .before .args in
-    let fit = c .before .before .before .before .before .before .before .before .before .before .fits2 .ensures .0 (not-false (c .before .before .before .before .before .before .before .before .before .before .fits2 .result) (c .before .before .before .before .before .before .before .before .before .if1 .left)) in
-    let y = accepted-by sha256 (now (a .leaf)) (a .place) (a .m) (a .n) (now (a .old)) (now (a .new)) (now (a .path)) (now (a .proof)) fit (c .before .before .before .before .before .before .before .before .node-at .ensures) (c .before .before .before .before .before .before .before .node-at2 .ensures) (c .before .before .before .before .before .before .walk .ensures .0) (c .before .before .before .before .before .before .walk .ensures .1 .0) (c .before .before .before .before .before .before .walk .ensures .1 .1 .0) (c .before .agree .ensures .0 (not-false (c .before .agree .result) (c .if2 .left))) in
-    let t = both sha256 (now (a .leaf)) (a .place) (a .m) (a .n) (now (a .old)) (now (a .new)) (now (a .path)) (now (a .proof)) (sym (y .0)) refl (sym (y .1)) refl in
-    let o = c .before .before .before .before .before .before .walk .ensures .1 .1 .1 .1 .1 in
-    omega (arith, o, t .path-count, t .proof-count, t .path-most, t .proof-most)
+add-if3-2 c = let t = two c in omega (arith, within c, t .path-count, t .proof-count, t .path-most, t .proof-most)
 
 returns-3 : tie.Need-returns-3
-unfolding pathAs
 returns-3 c =
-    let a = c .before .before .before .before .before .before .before .before .before .before .before .before .before .before .before .before .before .before .before .args in
-    let fit = c .before .before .before .before .before .before .before .before .before .before .before .fits2 .ensures .0 (not-false (c .before .before .before .before .before .before .before .before .before .before .before .fits2 .result) (c .before .before .before .before .before .before .before .before .before .before .if1 .left)) in
-    let y = accepted-by sha256 (now (a .leaf)) (a .place) (a .m) (a .n) (now (a .old)) (now (a .new)) (now (a .path)) (now (a .proof)) fit (c .before .before .before .before .before .before .before .before .before .node-at .ensures) (c .before .before .before .before .before .before .before .before .node-at2 .ensures) (c .before .before .before .before .before .before .before .walk .ensures .0) (c .before .before .before .before .before .before .before .walk .ensures .1 .0) (c .before .before .before .before .before .before .before .walk .ensures .1 .1 .0) (c .before .before .agree .ensures .0 (not-false (c .before .before .agree .result) (c .before .if2 .left))) in
-    let t = both sha256 (now (a .leaf)) (a .place) (a .m) (a .n) (now (a .old)) (now (a .new)) (now (a .path)) (now (a .proof)) (sym (y .0)) refl (sym (y .1)) refl in
-    let w = c .before .before .before .before .before .before .before .walk .result in
-    let s = c .before .before .before .before .before .before .before .walk .ensures in
-    let o = s .1 .1 .1 .1 .1 in
-    let q = length (now (a .proof)) / 32 in
-    let len : length (now (a .proof)) ≡ 32 * q = omega (arith, t .proof-length, t .proof-count) in
-    let p = path-walked sha256 (now (a .leaf)) (a .place) (a .m) (a .n) (now (a .old)) (now (a .path)) (now (a .proof)) t (c .before .before .before .before .before .before .before .before .before .node-at .ensures) (c .before .before .before .before .before .before .before .before .node-at2 .ensures) (s .1 .1 .1 .1 .0) in
-    let number : w .low + w .hashed + (q - w .high) ≡ inclusionCount (a .place) (a .n) =
-    sym (counted-pieces (w .low) (w .hashed) (w .sibling .bytes) (w .high) (now (a .path)) (now (a .proof)) q len (o .2)) ∙ ap length p ∙ new-path sha256 sha256-length (now (a .leaf)) (a .place) (a .m) (a .n) (now (a .old)) (now (a .new)) (now (a .path)) (now (a .proof)) (y .0) (y .1) .1 in
-    tells-refused (now (a .out)) (now (a .pair)) (path-short sha256 (now (a .leaf)) (a .place) (a .m) (a .n) (now (a .old)) (now (a .new)) (now (a .path)) (now (a .proof)) (length (now (a .out))) (length (now (a .pair))) (sym (y .0)) refl (sym (y .1)) refl (omega (arith, number, c .if3 .taken)))
+    let e = c .before in
+    let a = s e .args in
+    let y = accepted e in
+    reports-refused (now (a .out)) (now (a .pair)) (path-short sha256 (now (a .leaf)) (a .place) (a .m) (a .n) (now (a .old)) (now (a .new)) (now (a .path)) (now (a .proof)) (length (now (a .out))) (length (now (a .pair))) (sym (y .0)) refl (sym (y .1)) refl (omega (arith, number e, c .if3 .taken)))
 
 returns-4 : tie.Need-returns-4
-unfolding pathAs
 returns-4 c =
-    let a = c .before .before .before .before .before .before .before .before .before .before .before .before .before .before .before .before .before .before .before .before .args in
-    let fit = c .before .before .before .before .before .before .before .before .before .before .before .before .fits2 .ensures .0 (not-false (c .before .before .before .before .before .before .before .before .before .before .before .before .fits2 .result) (c .before .before .before .before .before .before .before .before .before .before .before .if1 .left)) in
-    let y = accepted-by sha256 (now (a .leaf)) (a .place) (a .m) (a .n) (now (a .old)) (now (a .new)) (now (a .path)) (now (a .proof)) fit (c .before .before .before .before .before .before .before .before .before .before .node-at .ensures) (c .before .before .before .before .before .before .before .before .before .node-at2 .ensures) (c .before .before .before .before .before .before .before .before .walk .ensures .0) (c .before .before .before .before .before .before .before .before .walk .ensures .1 .0) (c .before .before .before .before .before .before .before .before .walk .ensures .1 .1 .0) (c .before .before .before .agree .ensures .0 (not-false (c .before .before .before .agree .result) (c .before .before .if2 .left))) in
-    let t = both sha256 (now (a .leaf)) (a .place) (a .m) (a .n) (now (a .old)) (now (a .new)) (now (a .path)) (now (a .proof)) (sym (y .0)) refl (sym (y .1)) refl in
-    let w = c .before .before .before .before .before .before .before .before .walk .result in
-    let s = c .before .before .before .before .before .before .before .before .walk .ensures in
-    let o = s .1 .1 .1 .1 .1 in
-    let q = length (now (a .proof)) / 32 in
-    let len : length (now (a .proof)) ≡ 32 * q = omega (arith, t .proof-length, t .proof-count) in
-    let p = path-walked sha256 (now (a .leaf)) (a .place) (a .m) (a .n) (now (a .old)) (now (a .path)) (now (a .proof)) t (c .before .before .before .before .before .before .before .before .before .before .node-at .ensures) (c .before .before .before .before .before .before .before .before .before .node-at2 .ensures) (s .1 .1 .1 .1 .0) in
-    let number : w .low + w .hashed + (q - w .high) ≡ inclusionCount (a .place) (a .n) =
-    sym (counted-pieces (w .low) (w .hashed) (w .sibling .bytes) (w .high) (now (a .path)) (now (a .proof)) q len (o .2)) ∙ ap length p ∙ new-path sha256 sha256-length (now (a .leaf)) (a .place) (a .m) (a .n) (now (a .old)) (now (a .new)) (now (a .path)) (now (a .proof)) (y .0) (y .1) .1 in
-    tells-refused (now (a .out)) (now (a .pair)) (pair-short sha256 (now (a .leaf)) (a .place) (a .m) (a .n) (now (a .old)) (now (a .new)) (now (a .path)) (now (a .proof)) (length (now (a .out))) (length (now (a .pair))) (sym (y .0)) refl (sym (y .1)) refl (omega (arith, number, c .before .if3 .left)) (c .if4 .taken))
+    let e = c .before .before in
+    let a = s e .args in
+    let y = accepted e in
+    reports-refused (now (a .out)) (now (a .pair)) (pair-short sha256 (now (a .leaf)) (a .place) (a .m) (a .n) (now (a .old)) (now (a .new)) (now (a .path)) (now (a .proof)) (length (now (a .out))) (length (now (a .pair))) (sym (y .0)) refl (sym (y .1)) refl (omega (arith, number e, c .before .if3 .left)) (c .if4 .taken))
 
 put-pair-requires : tie.Need-put-pair-requires
 put-pair-requires c κs = omega (arith, c .before .before .before .before .before .before .if4 .left)
@@ -126,66 +152,38 @@ same-length : tie.Need-same-length
 same-length c = search needs
 
 returns-5 : tie.Need-returns-5
-unfolding pathAs
 returns-5 c =
-    let a = c .before .before .before .before .before .before .before .before .before .before .before .before .before .before .before .before .before .before .before .before .before .before .before .before .before .before .before .before .before .args in
-    let fit = c .before .before .before .before .before .before .before .before .before .before .before .before .before .before .before .before .before .before .before .before .before .fits2 .ensures .0 (not-false (c .before .before .before .before .before .before .before .before .before .before .before .before .before .before .before .before .before .before .before .before .before .fits2 .result) (c .before .before .before .before .before .before .before .before .before .before .before .before .before .before .before .before .before .before .before .before .if1 .left)) in
-    let y = accepted-by sha256 (now (a .leaf)) (a .place) (a .m) (a .n) (now (a .old)) (now (a .new)) (now (a .path)) (now (a .proof)) fit (c .before .before .before .before .before .before .before .before .before .before .before .before .before .before .before .before .before .before .before .node-at .ensures) (c .before .before .before .before .before .before .before .before .before .before .before .before .before .before .before .before .before .before .node-at2 .ensures) (c .before .before .before .before .before .before .before .before .before .before .before .before .before .before .before .before .before .walk .ensures .0) (c .before .before .before .before .before .before .before .before .before .before .before .before .before .before .before .before .before .walk .ensures .1 .0) (c .before .before .before .before .before .before .before .before .before .before .before .before .before .before .before .before .before .walk .ensures .1 .1 .0) (c .before .before .before .before .before .before .before .before .before .before .before .before .agree .ensures .0 (not-false (c .before .before .before .before .before .before .before .before .before .before .before .before .agree .result) (c .before .before .before .before .before .before .before .before .before .before .before .if2 .left))) in
-    let t = both sha256 (now (a .leaf)) (a .place) (a .m) (a .n) (now (a .old)) (now (a .new)) (now (a .path)) (now (a .proof)) (sym (y .0)) refl (sym (y .1)) refl in
-    let w = c .before .before .before .before .before .before .before .before .before .before .before .before .before .before .before .before .before .walk .result in
-    let s = c .before .before .before .before .before .before .before .before .before .before .before .before .before .before .before .before .before .walk .ensures in
-    let o = s .1 .1 .1 .1 .1 in
-    let q = length (now (a .proof)) / 32 in
-    let len : length (now (a .proof)) ≡ 32 * q = omega (arith, t .proof-length, t .proof-count) in
-    let p = path-walked sha256 (now (a .leaf)) (a .place) (a .m) (a .n) (now (a .old)) (now (a .path)) (now (a .proof)) t (c .before .before .before .before .before .before .before .before .before .before .before .before .before .before .before .before .before .before .before .node-at .ensures) (c .before .before .before .before .before .before .before .before .before .before .before .before .before .before .before .before .before .before .node-at2 .ensures) (s .1 .1 .1 .1 .0) in
-    let number : w .low + w .hashed + (q - w .high) ≡ inclusionCount (a .place) (a .n) =
-    sym (counted-pieces (w .low) (w .hashed) (w .sibling .bytes) (w .high) (now (a .path)) (now (a .proof)) q len (o .2)) ∙ ap length p ∙ new-path sha256 sha256-length (now (a .leaf)) (a .place) (a .m) (a .n) (now (a .old)) (now (a .new)) (now (a .path)) (now (a .proof)) (y .0) (y .1) .1 in
-    let g = long sha256 (now (a .leaf)) (a .place) (a .m) (a .n) (now (a .old)) (now (a .new)) (now (a .path)) (now (a .proof)) (length (now (a .out))) (length (now (a .pair))) (sym (y .0)) refl (sym (y .1)) refl (omega (arith, number, c .before .before .before .before .before .before .before .before .before .before .if3 .left)) (c .before .before .before .before .before .before .before .before .before .if4 .left) in
-    let d = difference-walked sha256 (now (a .leaf)) (a .place) (a .m) (a .n) (now (a .old)) (now (a .path)) (now (a .proof)) t (c .before .before .before .before .before .before .before .before .before .before .before .before .before .before .before .before .before .before .before .node-at .ensures) (c .before .before .before .before .before .before .before .before .before .before .before .before .before .before .before .before .before .before .node-at2 .ensures) (s .1 .1 .1 .0) in
-    tells-apart _ (now (a .out)) (now (a .pair)) g (sym d ∙ difference-apart (w .recomputed) (c .before .before .before .before .before .before .before .before .if5 .taken)) (c .before .before .put-pair .ensures)
+    let t = c .before .before .before .before .before .before .before .before in
+    let r = t .before in
+    let e = r .before .before in
+    let a = s e .args in
+    let y = accepted e in
+    let g = long sha256 (now (a .leaf)) (a .place) (a .m) (a .n) (now (a .old)) (now (a .new)) (now (a .path)) (now (a .proof)) (length (now (a .out))) (length (now (a .pair))) (sym (y .0)) refl (sym (y .1)) refl (omega (arith, number e, r .before .if3 .left)) (r .if4 .left) in
+    reports-apart _ (now (a .out)) (now (a .pair)) g (sym (difference e) ∙ difference-apart (w e .recomputed) (t .if5 .taken)) (c .before .before .put-pair .ensures)
 
 put-path-requires : tie.Need-put-path-requires
-unfolding pathAs
 put-path-requires c κs =
-    let a = c .before .before .before .before .before .before .before .before .before .before .before .before .before .before .before .before .before .before .before .before .before .before .before .args in
-    let fit = c .before .before .before .before .before .before .before .before .before .before .before .before .before .before .before .fits2 .ensures .0 (not-false (c .before .before .before .before .before .before .before .before .before .before .before .before .before .before .before .fits2 .result) (c .before .before .before .before .before .before .before .before .before .before .before .before .before .before .if1 .left)) in
-    let y = accepted-by sha256 (now (a .leaf)) (a .place) (a .m) (a .n) (now (a .old)) (now (a .new)) (now (a .path)) (now (a .proof)) fit (c .before .before .before .before .before .before .before .before .before .before .before .before .before .node-at .ensures) (c .before .before .before .before .before .before .before .before .before .before .before .before .node-at2 .ensures) (c .before .before .before .before .before .before .before .before .before .before .before .walk .ensures .0) (c .before .before .before .before .before .before .before .before .before .before .before .walk .ensures .1 .0) (c .before .before .before .before .before .before .before .before .before .before .before .walk .ensures .1 .1 .0) (c .before .before .before .before .before .before .agree .ensures .0 (not-false (c .before .before .before .before .before .before .agree .result) (c .before .before .before .before .before .if2 .left))) in
-    let t = both sha256 (now (a .leaf)) (a .place) (a .m) (a .n) (now (a .old)) (now (a .new)) (now (a .path)) (now (a .proof)) (sym (y .0)) refl (sym (y .1)) refl in
-    let w = c .before .before .before .before .before .before .before .before .before .before .before .walk .result in
-    let s = c .before .before .before .before .before .before .before .before .before .before .before .walk .ensures in
-    let o = s .1 .1 .1 .1 .1 in
-    let q = length (now (a .proof)) / 32 in
-    let len : length (now (a .proof)) ≡ 32 * q = omega (arith, t .proof-length, t .proof-count) in
-    let p = path-walked sha256 (now (a .leaf)) (a .place) (a .m) (a .n) (now (a .old)) (now (a .path)) (now (a .proof)) t (c .before .before .before .before .before .before .before .before .before .before .before .before .before .node-at .ensures) (c .before .before .before .before .before .before .before .before .before .before .before .before .node-at2 .ensures) (s .1 .1 .1 .1 .0) in
-    let number : w .low + w .hashed + (q - w .high) ≡ inclusionCount (a .place) (a .n) =
-    sym (counted-pieces (w .low) (w .hashed) (w .sibling .bytes) (w .high) (now (a .path)) (now (a .proof)) q len (o .2)) ∙ ap length p ∙ new-path sha256 sha256-length (now (a .leaf)) (a .place) (a .m) (a .n) (now (a .old)) (now (a .new)) (now (a .path)) (now (a .proof)) (y .0) (y .1) .1 in
-    let i = t .path-length in
-    let j = t .path-count in
-    (omega (arith, i, j, o), o .1, omega (arith, len, o), omega (arith, len, o, number, c .before .before .before .before .if3 .left))
+    let r = c .before .before .before in
+    let e = r .before .before in
+    let t = two e in
+    let o = within e in
+    (omega (arith, t .path-length, t .path-count, o), o .1, omega (arith, whole e, o), omega (arith, whole e, o, number e, r .before .if3 .left))
 
 same-length-2 : tie.Need-same-length-2
 same-length-2 c = search needs
 
 returns-6 : tie.Need-returns-6
-unfolding pathAs
 returns-6 c =
-    let a = c .before .before .before .before .before .before .before .before .before .before .before .before .before .before .before .before .before .before .before .before .before .before .before .before .before .before .args in
-    let fit = c .before .before .before .before .before .before .before .before .before .before .before .before .before .before .before .before .before .before .fits2 .ensures .0 (not-false (c .before .before .before .before .before .before .before .before .before .before .before .before .before .before .before .before .before .before .fits2 .result) (c .before .before .before .before .before .before .before .before .before .before .before .before .before .before .before .before .before .if1 .left)) in
-    let y = accepted-by sha256 (now (a .leaf)) (a .place) (a .m) (a .n) (now (a .old)) (now (a .new)) (now (a .path)) (now (a .proof)) fit (c .before .before .before .before .before .before .before .before .before .before .before .before .before .before .before .before .node-at .ensures) (c .before .before .before .before .before .before .before .before .before .before .before .before .before .before .before .node-at2 .ensures) (c .before .before .before .before .before .before .before .before .before .before .before .before .before .before .walk .ensures .0) (c .before .before .before .before .before .before .before .before .before .before .before .before .before .before .walk .ensures .1 .0) (c .before .before .before .before .before .before .before .before .before .before .before .before .before .before .walk .ensures .1 .1 .0) (c .before .before .before .before .before .before .before .before .before .agree .ensures .0 (not-false (c .before .before .before .before .before .before .before .before .before .agree .result) (c .before .before .before .before .before .before .before .before .if2 .left))) in
-    let t = both sha256 (now (a .leaf)) (a .place) (a .m) (a .n) (now (a .old)) (now (a .new)) (now (a .path)) (now (a .proof)) (sym (y .0)) refl (sym (y .1)) refl in
-    let w = c .before .before .before .before .before .before .before .before .before .before .before .before .before .before .walk .result in
-    let s = c .before .before .before .before .before .before .before .before .before .before .before .before .before .before .walk .ensures in
-    let o = s .1 .1 .1 .1 .1 in
-    let q = length (now (a .proof)) / 32 in
-    let len : length (now (a .proof)) ≡ 32 * q = omega (arith, t .proof-length, t .proof-count) in
-    let p = path-walked sha256 (now (a .leaf)) (a .place) (a .m) (a .n) (now (a .old)) (now (a .path)) (now (a .proof)) t (c .before .before .before .before .before .before .before .before .before .before .before .before .before .before .before .before .node-at .ensures) (c .before .before .before .before .before .before .before .before .before .before .before .before .before .before .before .node-at2 .ensures) (s .1 .1 .1 .1 .0) in
-    let number : w .low + w .hashed + (q - w .high) ≡ inclusionCount (a .place) (a .n) =
-    sym (counted-pieces (w .low) (w .hashed) (w .sibling .bytes) (w .high) (now (a .path)) (now (a .proof)) q len (o .2)) ∙ ap length p ∙ new-path sha256 sha256-length (now (a .leaf)) (a .place) (a .m) (a .n) (now (a .old)) (now (a .new)) (now (a .path)) (now (a .proof)) (y .0) (y .1) .1 in
-    let g = long sha256 (now (a .leaf)) (a .place) (a .m) (a .n) (now (a .old)) (now (a .new)) (now (a .path)) (now (a .proof)) (length (now (a .out))) (length (now (a .pair))) (sym (y .0)) refl (sym (y .1)) refl (omega (arith, number, c .before .before .before .before .before .before .before .if3 .left)) (c .before .before .before .before .before .before .if4 .left) in
-    let d = difference-walked sha256 (now (a .leaf)) (a .place) (a .m) (a .n) (now (a .old)) (now (a .path)) (now (a .proof)) t (c .before .before .before .before .before .before .before .before .before .before .before .before .before .before .before .before .node-at .ensures) (c .before .before .before .before .before .before .before .before .before .before .before .before .before .before .before .node-at2 .ensures) (s .1 .1 .1 .0) in
+    let t = c .before .before .before .before .before in
+    let r = t .before in
+    let e = r .before .before in
+    let a = s e .args in
+    let w = w e in
+    let y = accepted e in
+    let g = long sha256 (now (a .leaf)) (a .place) (a .m) (a .n) (now (a .old)) (now (a .new)) (now (a .path)) (now (a .proof)) (length (now (a .out))) (length (now (a .pair))) (sym (y .0)) refl (sym (y .1)) refl (omega (arith, number e, r .before .if3 .left)) (r .if4 .left) in
     let u = take (32 * w .low) (now (a .path)) ++ (take (32 * w .hashed) (w .sibling .bytes) ++ drop (32 * w .high) (now (a .proof))) in
-    let b = ap joined (sym p) ∙ pieces (w .low) (w .hashed) (w .sibling .bytes) (w .high) (now (a .path)) (now (a .proof)) q len (o .2) in
-    tells-path u (now (a .out)) (now (a .pair)) g (sym d ∙ difference-alike (w .recomputed) (c .before .before .before .before .before .if5 .left)) b (c .before .before .put-path .ensures .0) (c .before .before .put-path .ensures .1)
+    let b = ap joined (sym (new-nodes e)) ∙ pieces (w .low) (w .hashed) (w .sibling .bytes) (w .high) (now (a .path)) (now (a .proof)) (length (now (a .proof)) / 32) (whole e) (within e .2) in
+    reports-path u (now (a .out)) (now (a .pair)) g (sym (difference e) ∙ difference-alike (w .recomputed) (t .if5 .left)) b (c .before .before .put-path .ensures .0) (c .before .before .put-path .ensures .1)
 
 pub carry-spec : {M : Type 1} → statement M
 carry-spec =

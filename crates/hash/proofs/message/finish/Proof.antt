@@ -15,20 +15,24 @@ pack-requires c κs = ((search needs, search needs, search needs), (search needs
 
 returns : tie.Need-returns
 returns c =
-    let a = c .before .before .before .before .before .before .before .before .before .before .before .before .args in
+    let p = c .before .before .before .before .before .before .before in
+    let s = p .before .before .before .before .before in
+    let a = s .args in
     let h = now (a .head) in
     let t = now (a .rest) in
     c .before .before .before .compress .ensures
-    ∙ one-block compress compress-same (a .s) _ _ (length h + length t) _ (c .before .before .before .before .before .before .before .pack .ensures) (search needs) (parts-length h t (a .n) (c .before .before .before .before .before .before .before .before .before .before .before .before .pre .2)) (c .if1 .taken)
+    ∙ one-block compress compress-same (a .s) _ _ (length h + length t) _ (p .pack .ensures) (search needs) (parts-length h t (a .n) (s .pre .2)) (c .if1 .taken)
 
 returns-2 : tie.Need-returns-2
 returns-2 c =
-    let a = c .before .before .before .before .before .before .before .before .before .before .before .before .before .before .before .before .before .args in
+    let p = c .before .before .before .before .before .before .before .before .before .before .before .before in
+    let s = p .before .before .before .before .before in
+    let a = s .args in
     let h = now (a .head) in
     let t = now (a .rest) in
     c .before .before .compress2 .ensures
     ∙ rw (c .before .before .before .before .before .before .before .before .compress .ensures)
-    (two-blocks compress compress-same (a .s) _ _ (length h + length t) _ (c .before .before .before .before .before .before .before .before .before .before .before .before .pack .ensures) (search needs) (parts-length h t (a .n) (c .before .before .before .before .before .before .before .before .before .before .before .before .before .before .before .before .before .pre .2)) (c .before .before .before .before .before .if1 .left) (c .before .before .before .before .before .before .before .before .before .before .before .before .before .before .before .before .before .pre .0))
+    (two-blocks compress compress-same (a .s) _ _ (length h + length t) _ (p .pack .ensures) (search needs) (parts-length h t (a .n) (s .pre .2)) (c .before .before .before .before .before .if1 .left) (s .pre .0))
 
 pub finish-spec : {M : Type 1} → statement M
 finish-spec = tie.close (tie.spec (λ c. omega arith) (λ c. omega arith) (λ c. omega arith) (λ c. search needs) pack-requires (λ c. search needs) (λ c. search needs) (λ c. search needs) returns (λ c. search needs) (λ c. search needs) (λ c. search needs) returns-2)

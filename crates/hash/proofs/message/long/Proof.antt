@@ -28,8 +28,9 @@ loop-holds c =
 
 loop-again : tie.Need-loop-again Inv-loop μ-loop
 loop-again c =
-    let a = c .before .before .before .before .before .before .before .before .before .before .before .before .before .args in
-    let l = c .before .before .before .before .before .loop in
+    let k = c .before .before .before .before .before in
+    let a = k .before .before .before .before .before .before .before .before .args in
+    let l = k .loop in
     let i = (length (now (a .head)) + l .p) / 64 in
     let e : (length (now (a .head)) + (l .p + 64)) / 64 ≡ i + 1 = omega arith in (
       search needs,
@@ -41,16 +42,18 @@ loop-again c =
 
 finish-requires : tie.Need-finish-requires Inv-loop μ-loop
 finish-requires c κs =
-    let l = c .before .before .before .before .loop in
-    let m = now (c .before .before .before .before .before .before .before .before .before .before .before .before .args .m) in
+    let k = c .before .before .before .before in
+    let l = k .loop in
+    let m = now (k .before .before .before .before .before .before .before .before .args .m) in
     let e = ap length (l .inv .3) in
     let r = length-take-le (length m - l .p) (drop (l .p) m) (rw length-drop (le-refl _)) in
     (omega arith, omega arith, omega arith, search needs)
 
 returns : tie.Need-returns Inv-loop μ-loop
 returns c =
-    let a = c .before .before .before .before .before .before .before .before .before .before .before .before .before .before .before .args in
-    let l = c .before .before .before .before .before .before .before .loop in
+    let k = c .before .before .before .before .before .before .before in
+    let a = k .before .before .before .before .before .before .before .before .args in
+    let l = k .loop in
     let m = now (a .m) in
     c .before .before .finish .ensures
     ∙ long-ends compress compress-same initial (l .v) (now (a .head)) m _ _ (l .p) ((length (now (a .head)) + l .p) / 64) _ (l .inv .0) (omega arith) refl (l .inv .4) (l .inv .3) (take-all (length m - l .p) (drop (l .p) m) (rw length-drop (le-refl _)))

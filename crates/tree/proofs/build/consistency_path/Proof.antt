@@ -11,7 +11,7 @@ use mathlib.Core.Bool.{true}
 use Rattle.tree.specs.Tree.{subproof, consistency}
 use Rattle.tree.specs.Count.{consistencyCount}
 use Rattle.tree.specs.Joined.{nodes, joined}
-use Rattle.tree.proofs.Building.{proof-10, proof-zero, proof-6, proof-in, proof-bytes, short, long, tells-refused, tells-from, from-start}
+use Rattle.tree.proofs.Building.{proof-10, proof-zero, proof-6, proof-in, proof-bytes, short, long, reports-refused, reports-from, from-start}
 use Rattle.tree.proofs.build.consistency_path.Statement.{statement}
 use Rattle.tree.proofs.build.consistency_path.Tie as tie
 
@@ -21,17 +21,17 @@ bad-leaves-requires c κs = omega arith
 returns : tie.Need-returns
 returns c =
     let a = c .before .before .before .before .args in
-    tells-refused (now (a .out)) (proof-10 sha256 (now (a .leaves)) (a .first) (length (now (a .out))) (sym (c .before .bad-leaves .ensures) ∙ c .if1 .taken))
+    reports-refused (now (a .out)) (proof-10 sha256 (now (a .leaves)) (a .first) (length (now (a .out))) (sym (c .before .bad-leaves .ensures) ∙ c .if1 .taken))
 
 returns-2 : tie.Need-returns-2
 returns-2 c =
     let a = c .before .before .before .before .before .args in
-    tells-refused (now (a .out)) (proof-zero sha256 (now (a .leaves)) (a .first) (length (now (a .out))) (sym (c .before .before .bad-leaves .ensures) ∙ c .before .if1 .left) (omega arith))
+    reports-refused (now (a .out)) (proof-zero sha256 (now (a .leaves)) (a .first) (length (now (a .out))) (sym (c .before .before .bad-leaves .ensures) ∙ c .before .if1 .left) (omega arith))
 
 returns-3 : tie.Need-returns-3
 returns-3 c =
     let a = c .before .before .before .before .before .before .args in
-    tells-refused (now (a .out)) (proof-6 sha256 (now (a .leaves)) (a .first) (length (now (a .out))) (sym (c .before .before .before .bad-leaves .ensures) ∙ c .before .before .if1 .left) (omega arith) (omega arith))
+    reports-refused (now (a .out)) (proof-6 sha256 (now (a .leaves)) (a .first) (length (now (a .out))) (sym (c .before .before .before .bad-leaves .ensures) ∙ c .before .before .if1 .left) (omega arith) (omega arith))
 
 subproof-count-requires : tie.Need-subproof-count-requires
 subproof-count-requires c κs = omega arith
@@ -43,7 +43,7 @@ returns-4 c =
     let s = now (a .leaves) in
     let r = length (now (a .out)) in
     let n = proof-bytes sha256 sha256-length (a .first) s (omega arith) (omega arith) in
-    tells-refused (now (a .out)) (proof-in sha256 s (a .first) r (sym (c .before .before .before .before .before .bad-leaves .ensures) ∙ c .before .before .before .before .if1 .left) (omega arith) (omega arith) ∙ short r (joined (consistency sha256 (a .first) (nodes s))) (omega arith))
+    reports-refused (now (a .out)) (proof-in sha256 s (a .first) r (sym (c .before .before .before .before .before .bad-leaves .ensures) ∙ c .before .before .before .before .if1 .left) (omega arith) (omega arith) ∙ short r (joined (consistency sha256 (a .first) (nodes s))) (omega arith))
 
 proof-into-requires : tie.Need-proof-into-requires
 unfolding consistency consistencyCount
@@ -64,7 +64,7 @@ returns-5 c =
     let o = now (a .out) in
     let n = proof-bytes sha256 sha256-length (a .first) s (omega arith) (omega arith) in
     let call = c .before .before .proof-into .ensures in
-    tells-from (λ (l : List (List ℕ)). subproof sha256 (a .first) l true) s o (proof-in sha256 s (a .first) (length o) (sym (c .before .before .before .before .before .before .before .before .before .bad-leaves .ensures) ∙ c .before .before .before .before .before .before .before .before .if1 .left) (omega arith) (omega arith) ∙ long (length o) (joined (consistency sha256 (a .first) (nodes s))) (omega arith)) (call .0) (call .1)
+    reports-from (λ (l : List (List ℕ)). subproof sha256 (a .first) l true) s o (proof-in sha256 s (a .first) (length o) (sym (c .before .before .before .before .before .before .before .before .before .bad-leaves .ensures) ∙ c .before .before .before .before .before .before .before .before .if1 .left) (omega arith) (omega arith) ∙ long (length o) (joined (consistency sha256 (a .first) (nodes s))) (omega arith)) (call .0) (call .1)
 
 pub consistency-path-spec : {M : Type 1} → statement M
 consistency-path-spec =

@@ -9,7 +9,7 @@ use Rattle.hash.specs.Digest.{sha256}
 use Rattle.hash.proofs.Promises.{sha256-length}
 use Rattle.tree.specs.Tree.{path}
 use Rattle.tree.specs.Joined.{nodes, joined}
-use Rattle.tree.proofs.Building.{path-10, path-6, path-in, path-bytes, short, long, tells-refused, tells-from, from-start}
+use Rattle.tree.proofs.Building.{path-10, path-6, path-in, path-bytes, short, long, reports-refused, reports-from, from-start}
 use Rattle.tree.proofs.build.inclusion_path.Statement.{statement}
 use Rattle.tree.proofs.build.inclusion_path.Tie as tie
 
@@ -19,12 +19,12 @@ bad-leaves-requires c κs = omega arith
 returns : tie.Need-returns
 returns c =
     let a = c .before .before .before .before .args in
-    tells-refused (now (a .out)) (path-10 sha256 (now (a .leaves)) (a .place) (length (now (a .out))) (sym (c .before .bad-leaves .ensures) ∙ c .if1 .taken))
+    reports-refused (now (a .out)) (path-10 sha256 (now (a .leaves)) (a .place) (length (now (a .out))) (sym (c .before .bad-leaves .ensures) ∙ c .if1 .taken))
 
 returns-2 : tie.Need-returns-2
 returns-2 c =
     let a = c .before .before .before .before .before .args in
-    tells-refused (now (a .out)) (path-6 sha256 (now (a .leaves)) (a .place) (length (now (a .out))) (sym (c .before .before .bad-leaves .ensures) ∙ c .before .if1 .left) (omega arith))
+    reports-refused (now (a .out)) (path-6 sha256 (now (a .leaves)) (a .place) (length (now (a .out))) (sym (c .before .before .bad-leaves .ensures) ∙ c .before .if1 .left) (omega arith))
 
 inclusion-count-requires : tie.Need-inclusion-count-requires
 inclusion-count-requires c κs = omega arith
@@ -35,7 +35,7 @@ returns-3 c =
     let s = now (a .leaves) in
     let r = length (now (a .out)) in
     let n = path-bytes sha256 sha256-length (a .place) s (omega arith) in
-    tells-refused (now (a .out)) (path-in sha256 s (a .place) r (sym (c .before .before .before .before .bad-leaves .ensures) ∙ c .before .before .before .if1 .left) (omega arith) ∙ short r (joined (path sha256 (a .place) (nodes s))) (omega arith))
+    reports-refused (now (a .out)) (path-in sha256 s (a .place) r (sym (c .before .before .before .before .bad-leaves .ensures) ∙ c .before .before .before .if1 .left) (omega arith) ∙ short r (joined (path sha256 (a .place) (nodes s))) (omega arith))
 
 path-into-requires : tie.Need-path-into-requires
 path-into-requires c κs =
@@ -54,7 +54,7 @@ returns-4 c =
     let o = now (a .out) in
     let n = path-bytes sha256 sha256-length (a .place) s (omega arith) in
     let call = c .before .before .path-into .ensures in
-    tells-from (path sha256 (a .place)) s o (path-in sha256 s (a .place) (length o) (sym (c .before .before .before .before .before .before .before .before .bad-leaves .ensures) ∙ c .before .before .before .before .before .before .before .if1 .left) (omega arith) ∙ long (length o) (joined (path sha256 (a .place) (nodes s))) (omega arith)) (call .0) (call .1)
+    reports-from (path sha256 (a .place)) s o (path-in sha256 s (a .place) (length o) (sym (c .before .before .before .before .before .before .before .before .bad-leaves .ensures) ∙ c .before .before .before .before .before .before .before .if1 .left) (omega arith) ∙ long (length o) (joined (path sha256 (a .place) (nodes s))) (omega arith)) (call .0) (call .1)
 
 pub inclusion-path-spec : {M : Type 1} → statement M
 inclusion-path-spec =

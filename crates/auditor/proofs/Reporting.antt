@@ -1,4 +1,4 @@
--- What a dispute makes of what a comparison and a carrying tell. Assumes nothing.
+-- What a dispute makes of what a comparison and a carrying report. Assumes nothing.
 use mathlib.Core.Path.{_≡_, refl, sym, ap, _∙_}
 use mathlib.Core.Bool.{Bool, true, false, cond}
 use mathlib.Core.List.{List, _++_}
@@ -16,9 +16,9 @@ no : _≡_ {A = ℕ} 0 1 → ⊥
 no e = omega arith
 
 -- a refusal says its number, and the pair buffer keeps its bytes
-pub refused-tells : (d : Finding) (n : ℕ) (b : List ℕ) → d ≡ refused n → (Answer.refused n ≡ disputeReport d) × (b ≡ pairDisputed d b)
+pub reports-refused : (d : Finding) (n : ℕ) (b : List ℕ) → d ≡ refused n → (Answer.refused n ≡ disputeReport d) × (b ≡ pairDisputed d b)
 unfolding disputeReport pairDisputed
-refused-tells d n b e = rw e (refl, refl)
+reports-refused d n b e = rw e (refl, refl)
 
 module _ (page₁ page₂ b : List ℕ) where
   pub compared-refused : (f : Comparison) (n : ℕ) → Answer.refused n ≡ compareReport f → (Answer.refused n ≡ disputeReport (settled page₁ page₂ f)) × (pairCompared f b ≡ pairDisputed (settled page₁ page₂ f) b)
