@@ -7,9 +7,9 @@ use crate::answers::then;
 use crate::answers::words;
 use crate::request::Numbers;
 use crate::request::short;
+use fields::layout::Part;
+use fields::writing::Written;
 use item::Item;
-use item::Part;
-use item::Written;
 
 // How a field is answered: by where its bytes start and how many they are, or by the number that it is.
 const VECTOR: bool = true;
@@ -159,7 +159,11 @@ fn any(found: Item) -> Answer {
             page,
             body,
         ),
-        Item::Refused { number, place } => numbered(number as u64, place as u64),
+        Item::Refused {
+            number,
+            place,
+            met: _,
+        } => numbered(number as u64, place as u64),
         _ => statement(found),
     }
 }
@@ -195,7 +199,7 @@ fn path_into(n: Numbers, a: &[u8], lent: &mut [u8]) -> Answer {
         len: n.b as usize,
         value: 0,
     };
-    written(item::path_into(a, path, lent))
+    written(fields::path::path_into(a, path, lent))
 }
 
 fn write<'a>(

@@ -4,10 +4,10 @@ use crate::bytes::blank;
 use crate::bytes::part;
 use crate::say::count;
 use crate::say::words;
+use fields::layout::Part;
+use fields::writing::Written;
 use item::Item;
 use item::Numbers;
-use item::Part;
-use item::Written;
 
 const PAGE: u16 = 0xF001;
 

@@ -8,8 +8,8 @@ use Rattle.tree.specs.Claims.{Inclusion, Consistency}
 use Rattle.tree.specs.Joined.{nodes, joined}
 use Rattle.tree.proofs.Joining.{All32, nodes-joined}
 use Rattle.tree.proofs.Accepting.{accepts}
-use Rattle.item.specs.Claims.{Each}
-use Rattle.item.specs.Path.{joined as together}
+use Rattle.fields.specs.Claims.{Each}
+use Rattle.fields.specs.Path.{joined as together}
 use Rattle.item.proofs.Trips.{path-is-said}
 use Rattle.mta.specs.Judged.{Shows, Joins, ItemsAreJudged}
 

@@ -7,8 +7,9 @@ use Rattle.octets.specs.Answer.{Answer, done, refused}
 use Rattle.carry.specs.Forward.{Moved}
 use Rattle.carry.specs.Compare.{Likeness}
 use Rattle.item.specs.declared.writer.Numbers.{Numbers}
-use Rattle.item.specs.Checked.{Checked, good, bad}
-use Rattle.item.specs.Item.{vectors, Outcome, writeItem}
+use Rattle.fields.specs.Checked.{Checked, good, bad}
+use Rattle.fields.specs.Effect.{Effect}
+use Rattle.item.specs.Item.{vectors, writeItem}
 
 -- carrying: how many bytes of path were written, 0 where two strings were, and whether they were
 abbrev pub writtenAfter : Answer Moved → ℕ → ℕ
@@ -45,5 +46,5 @@ abbrev pub sizesOf : ℕ → ℕ → Numbers
 sizesOf first second = record { timestamp = 0; size = 0; «size_one» = first; «size_two» = second; place = 0; agreement = 0; page = 0 }
 
 -- a consistency item, written from what it has
-unfoldable pub consistencyWritten : List ℕ → ℕ → ℕ → List ℕ → List ℕ → Outcome
+unfoldable pub consistencyWritten : List ℕ → ℕ → ℕ → List ℕ → List ℕ → Effect
 consistencyWritten log first second path out = writeItem 0x0105 (sizesOf first second) (vectors log [] [] [] [] [] path []) out

@@ -10,10 +10,11 @@ use Rattle.tree.specs.Limits.{largestSize}
 use Rattle.tree.specs.Count.{inclusionCount, consistencyCount}
 use Rattle.tree.specs.Yield.{inclusionRoot, oldRoot, newRoot}
 use Rattle.tree.specs.Verdict.{inclusionVerdict, consistencyVerdict}
-use Rattle.item.specs.Checked.{good}
-use Rattle.item.specs.Layout.{cut}
-use Rattle.item.specs.Item.{Reading, readItem, wrote}
-use Rattle.item.specs.Path.{encoded, copyPath}
+use Rattle.fields.specs.Checked.{good}
+use Rattle.fields.specs.Layout.{bytesAt}
+use Rattle.fields.specs.Effect.{wrote}
+use Rattle.item.specs.Item.{Reading, readItem}
+use Rattle.fields.specs.Path.{encoded, copyPath}
 use Rattle.item.specs.Claims.{HasPath, pathPart}
 
 module _ (H : List ℕ → List ℕ) where
@@ -40,7 +41,7 @@ module _ (H : List ℕ → List ℕ) where
 -- the hashes that stand in an item as its path, what is copied of it, and what the verdicts say of that
 pub record Judged (s : List ℕ) (r : Reading) : Type 0 where
   pub hashes : List (List ℕ)
-  pub item : cut s (pathPart r) ≡ encoded hashes
+  pub item : bytesAt s (pathPart r) ≡ encoded hashes
   pub path : List ℕ
   pub copied : (out : List ℕ) → length path ≤ length out → copyPath s (pathPart r) out ≡ wrote path out
   pub inclusion :

@@ -8,7 +8,8 @@ ghost use Rattle.hash.specs.Answers.{mostInput, intoNumber, intoBytes};
 ghost use Rattle.tree.specs.Verdict.{inclusionVerdict, consistencyVerdict};
 ghost use Rattle.octets.specs.Answer.{number};
 ghost use Rattle.tree.specs.Build.{building, buildReport, output, rootBuilt};
-ghost use Rattle.item.specs.Item.{reading, readItem, writing};
+ghost use Rattle.fields.specs.Effect.{writing};
+ghost use Rattle.item.specs.Item.{reading, readItem};
 ghost use Rattle.carry.specs.Forward.{carry, pathCarried, pairCarried, carryReport};
 ghost use Rattle.carry.specs.Compare.{compare, compareReport, pairCompared};
 ghost use Rattle.mta.specs.Entries.{writtenAfter, collidedAfter, differedAfter, numberOf, placeOf, lengthAfter, sizesOf, consistencyWritten};
@@ -16,10 +17,10 @@ ghost use Rattle.mta.specs.Judged.{ItemsAreJudged};
 ghost use Rattle.mta.specs.Slices.{nodeNumber, nodeBytes, wordsOf, wordsNumber, wordsAfter, scheduleAfter};
 use carry::compare::Compared;
 use carry::forward::Carried;
+use fields::writing::Written;
 use hash::Digest;
 use item::Item;
 use item::Numbers;
-use item::Written;
 use sha256::State;
 use sha256::Stepped;
 use tree::build::Built;
@@ -203,7 +204,11 @@ fn refused(i: Item) -> Refusal
             page: _,
             body: _,
         } => not_refused(),
-        Item::Refused { number, place } => Refusal { number, place },
+        Item::Refused {
+            number,
+            place,
+            met: _,
+        } => Refusal { number, place },
     }
 }
 

@@ -2,8 +2,8 @@ use borrow.Author.Needs.{needs}
 use denote.Ref.{now}
 use Prim.Native.Nat.{ℕ}
 use mathlib.Core.Path.{sym, ap, _∙_}
-use Rattle.item.specs.Checked.{Checked}
-use Rattle.item.specs.Item.{writing}
+use Rattle.fields.specs.Checked.{Checked}
+use Rattle.fields.specs.Effect.{writing}
 use Rattle.mta.specs.Entries.{numberOf, lengthAfter, consistencyWritten}
 use Rattle.mta.proofs.mta_consistency_item.Statement.{statement}
 use Rattle.mta.proofs.mta_consistency_item.Tie as tie
