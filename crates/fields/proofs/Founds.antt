@@ -2,7 +2,7 @@
 use mathlib.Core.Path.{_≡_, refl}
 use mathlib.Core.List.{List}
 use mathlib.Core.Bool.{Bool, true, false, cond}
-use Prim.Native.Nat.{ℕ, _+_, _-_, _≤_, _<_}
+use Prim.Native.Nat.{ℕ, _+_, _-_, _≤_}
 use native.Mathlib.Omega.{arith}
 use lib.ListN.{length, take, drop, length-drop}
 use lib.Dec.{ltb}
@@ -16,8 +16,6 @@ use Rattle.fields.specs.declared.layout.FieldRead.the-variants.{Found, B
 use Rattle.fields.specs.declared.layout.Inside.{Inside}
 use Rattle.fields.specs.declared.layout.Inside.the-variants.{Fine, Wrong}
 use Rattle.octets.specs.Numbers.{widthOf, unbe}
-use Rattle.octets.specs.declared.number.Width.{Width}
-use Rattle.octets.specs.declared.number.Width.the-variants.{One, Two, Three, Four, Five, Six, Seven, Eight}
 use Rattle.fields.specs.Layout.{inside, numberAt, vectorAt, field, whole}
 use Rattle.fields.proofs.Places.{inside-place}
 
@@ -72,24 +70,6 @@ found-within (Vector w least most i) r at p e =
 pub found-after : (f : Field) (r : List ℕ) (at : ℕ) (p : Part) → field f r at ≡ Found p → at ≤ p .start + p .len
 found-after (Uint w) r at p e = let h = found-number (widthOf w) r at p e in rw (h .0) (omega arith)
 found-after (Vector w least most i) r at p e = let h = found-vector (widthOf w) least most i r at p e in rw (h .is) (omega arith)
-
--- no field is found past the end of the bytes
-width-some : (w : Width) → 1 ≤ widthOf w
-width-some One = omega arith
-width-some Two = omega arith
-width-some Three = omega arith
-width-some Four = omega arith
-width-some Five = omega arith
-width-some Six = omega arith
-width-some Seven = omega arith
-width-some Eight = omega arith
-
-some-bytes : (f : Field) (r : List ℕ) (at : ℕ) (p : Part) → field f r at ≡ Found p → 0 < length r
-some-bytes (Uint w) r at p e = let h = found-number (widthOf w) r at p e in omega (arith, h .1, width-some w)
-some-bytes (Vector w least most i) r at p e = let h = found-vector (widthOf w) least most i r at p e in omega (arith, h .prefix, width-some w)
-
-pub found-inside : (f : Field) (s : List ℕ) (at : ℕ) (p : Part) → field f (drop at s) at ≡ Found p → p .start + p .len ≤ length s
-found-inside f s at p e = omega (arith, found-within f (drop at s) at p e, some-bytes f (drop at s) at p e, length-drop at s)
 
 found-bad : {A : Type 0} (x y : ℕ) (p : Part) → Found p ≡ Bad x y → A
 found-bad x y p e = absurd (let z : _≡_ {A = ℕ} 0 1 = cc in omega arith)

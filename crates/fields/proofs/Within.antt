@@ -4,17 +4,21 @@ use mathlib.Core.List.{List, [], _∷_}
 use mathlib.Core.Bool.{Bool, true, false, cond}
 use Prim.Native.Nat.{ℕ, suc, _+_, _≤_}
 use native.Mathlib.Omega.{arith}
-use lib.ListN.{length, drop, length-drop}
+use lib.ListN.{length, take, drop, length-drop}
 use lib.Dec.{ltb}
+use lib.Seq.{drop-drop}
+use Rattle.octets.specs.Numbers.{widthOf, unbe}
 use Rattle.fields.specs.declared.layout.Part.{Part}
 use Rattle.fields.specs.declared.layout.Field.{Field}
+use Rattle.fields.specs.declared.layout.Field.the-variants.{Uint, Vector}
+use Rattle.fields.specs.declared.layout.Inside.the-variants.{Fine}
 use Rattle.fields.specs.declared.layout.FieldRead.{FieldRead}
 use Rattle.fields.specs.declared.layout.FieldRead.the-variants.{Found, Bad}
 use Rattle.fields.specs.Checked.{Checked, good, bad}
-use Rattle.fields.specs.Layout.{field, next, push, read, onward, found}
+use Rattle.fields.specs.Layout.{inside, field, next, push, read, onward, found, bytesAt}
 use Rattle.fields.specs.Claims.{Each, Met, FoundBefore, FieldsWithin, RefusedWithin}
 use Rattle.fields.proofs.Answers.{bad-good, good-bad, same-good, same-place, same-number}
-use Rattle.fields.proofs.Founds.{found-within, found-after, refused-at}
+use Rattle.fields.proofs.Founds.{found-vector, found-within, found-after, refused-at}
 
 -- each field with its part
 abbrev pub Both : (Field → Part → Type 0) → List Field → List Part → Type 0
@@ -141,3 +145,18 @@ read-count (f ∷ fs) s at ps e = go (field f (drop at s) at) e (λ p. read-coun
         more : (a : Checked (List Part)) → read fs s (p .start + p .len) ≡ a → push p a ≡ good ps → length ps ≡ suc (length fs)
         more (bad x y) ha e = bad-good x y ps e
         more (good qs) ha e = sym (ap length (same-good (p ∷ qs) ps e)) ∙ ap suc (less p qs ha)
+
+-- a field that was found is whole: a vector's elements are fine
+abbrev pub Whole : List ℕ → Field → Part → Type 0
+Whole s (Uint w) p = Unit
+Whole s (Vector w least most i) p = (p .start + p .len ≤ length s) × (inside i (bytesAt s p) (p .start) ≡ Fine)
+
+pub found-whole : (s : List ℕ) (f : Field) (at : ℕ) (p : Part) → at ≤ length s → field f (drop at s) at ≡ Found p → Whole s f p
+found-whole s (Uint w) at p h e = tt
+found-whole s (Vector w least most i) at p h e =
+    let u = widthOf w in
+    let v = found-vector u least most i (drop at s) at p e in
+    let n = unbe (take u (drop at s)) in
+    let l : at + u + n ≤ length s = omega (arith, v .room, v .prefix, length-drop at s) in
+    let f : inside i (take n (drop (at + u) s)) (at + u) ≡ Fine = rw (drop-drop u at s) at (v .fine) in
+    rw (v .is) (l, f)

@@ -1,4 +1,4 @@
--- The table's fields: each is short enough for sums of places, and stands in a layout where its name stands. Assumes nothing.
+-- The table's fields: how much each takes, and where it stands in a layout. Assumes nothing.
 use mathlib.Core.Path.{_≡_, refl, ap, sym, _∙_}
 use mathlib.Core.List.{List, [], _∷_, map}
 use Prim.Native.Nat.{ℕ, zero, suc, _≤_, _<_}
@@ -6,11 +6,9 @@ use native.Mathlib.Omega.{arith}
 use lib.ListN.{length, getD, take}
 use lib.Seq.{getD-take}
 use Rattle.fields.specs.declared.layout.Field.{Field}
-use Rattle.octets.specs.declared.number.Width.{Width}
-use Rattle.octets.specs.declared.number.Width.the-variants.{One, Two, Three, Four, Five, Six, Seven, Eight}
-use Rattle.octets.specs.Numbers.{widthOf}
+use Rattle.octets.specs.declared.number.Width.the-variants.{One}
 use Rattle.fields.proofs.Fills.{most}
-use Rattle.fields.specs.declared.layout.Field.the-variants.{Uint, Vector}
+use Rattle.fields.specs.declared.layout.Field.the-variants.{Uint}
 use Rattle.item.specs.declared.table.Name.{Name}
 use Rattle.item.specs.declared.table.Name.the-variants.{Timestamp, Size, SizeOne, SizeTwo, Place, Agreement, PageNumber, LogId, IssuerKeyHash, Certificate, RootHash, Extensions, Signature, Path, Body}
 use Rattle.item.specs.declared.table.Case.{Case}
@@ -19,43 +17,26 @@ use Rattle.item.specs.Table.{fieldOf, namesOf, layoutOf}
 use Rattle.item.specs.declared.writer.Numbers.{Numbers}
 use Rattle.fields.specs.Write.{Value, held}
 use Rattle.item.specs.Item.{Vectors, valueOf, filled}
-use Rattle.item.specs.Steps.{Narrow, numberOf, bytesOf}
+use Rattle.item.specs.Steps.{numberOf, bytesOf}
 use Rattle.fields.proofs.Filling.{nothing}
 
-narrow : (n : Name) → Narrow (fieldOf n)
-narrow Timestamp = tt
-narrow Size = tt
-narrow SizeOne = tt
-narrow SizeTwo = tt
-narrow Place = tt
-narrow Agreement = tt
-narrow PageNumber = tt
-narrow LogId = omega arith
-narrow IssuerKeyHash = omega arith
-narrow Certificate = omega arith
-narrow RootHash = omega arith
-narrow Extensions = omega arith
-narrow Signature = omega arith
-narrow Path = omega arith
-narrow Body = omega arith
-
--- what a field of the table takes
+-- the most that a field of the table takes is little beside the largest place
 pub most-small : (n : Name) → most (fieldOf n) ≤ 4294967303
-most-small n = go (fieldOf n) (narrow n)
-  where
-    wide : (w : Width) → widthOf w ≤ 8
-    wide One = omega arith
-    wide Two = omega arith
-    wide Three = omega arith
-    wide Four = omega arith
-    wide Five = omega arith
-    wide Six = omega arith
-    wide Seven = omega arith
-    wide Eight = omega arith
-
-    go : (f : Field) → Narrow f → most f ≤ 4294967303
-    go (Uint w) h = omega (arith, wide w)
-    go (Vector w least m i) h = omega (arith, wide w)
+most-small Timestamp = omega arith
+most-small Size = omega arith
+most-small SizeOne = omega arith
+most-small SizeTwo = omega arith
+most-small Place = omega arith
+most-small Agreement = omega arith
+most-small PageNumber = omega arith
+most-small LogId = omega arith
+most-small IssuerKeyHash = omega arith
+most-small Certificate = omega arith
+most-small RootHash = omega arith
+most-small Extensions = omega arith
+most-small Signature = omega arith
+most-small Path = omega arith
+most-small Body = omega arith
 
 pub layout-length : (c : Case) → length (layoutOf c) ≡ length (namesOf c)
 layout-length c = go (namesOf c)

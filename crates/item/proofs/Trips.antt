@@ -32,26 +32,10 @@ use Rattle.item.specs.Claims.{Given, HasPath, pathPart, PathIsSaid, Take
 use Rattle.fields.specs.Claims.{CopyKeeps}
 use Rattle.fields.proofs.Answers.{bad-good, good-bad, same-good}
 use Rattle.fields.proofs.Lent.{refused-keeps, past-keeps}
-use Rattle.fields.proofs.Founds.{found-vector}
-use Rattle.fields.proofs.Within.{Both, parts-all}
+use Rattle.fields.proofs.Within.{Both, parts-all, Whole, found-whole}
 use Rattle.fields.proofs.Filling.{nothing}
 use Rattle.fields.proofs.Hashing.{was-copied, copied-is, copied-is-joined}
 use Rattle.item.proofs.Items.{was-read, read-then-written, written-then-read}
-
--- a field that was found is whole: a vector's elements are fine
-abbrev Whole : List ℕ → Field → Part → Type 0
-Whole s (Uint w) p = Unit
-Whole s (Vector w least most i) p = (p .start + p .len ≤ length s) × (inside i (bytesAt s p) (p .start) ≡ Fine)
-
-found-whole : (s : List ℕ) (f : Field) (at : ℕ) (p : Part) → at ≤ length s → field f (drop at s) at ≡ Found p → Whole s f p
-found-whole s (Uint w) at p h e = tt
-found-whole s (Vector w least most i) at p h e =
-    let u = widthOf w in
-    let v = found-vector u least most i (drop at s) at p e in
-    let n = unbe (take u (drop at s)) in
-    let l : at + u + n ≤ length s = omega (arith, v .room, v .prefix, length-drop at s) in
-    let f : inside i (take n (drop (at + u) s)) (at + u) ≡ Fine = rw (drop-drop u at s) at (v .fine) in
-    rw (v .is) (l, f)
 
 -- the path of an item that was read is copied
 path-copied : (s : List ℕ) (r : Reading) → readItem s ≡ good r → HasPath (r .case) → pathAt s (pathPart r) ≡ good (unwrap NodeList (bytesAt s (pathPart r)))

@@ -1,9 +1,7 @@
 -- What the private functions promise each other. A reader of the public promises needs none of it. Assumes nothing.
-use Prim.Native.Nat.{ℕ, _+_, _^_, _≤_, _<_}
+use Prim.Native.Nat.{ℕ, _+_, _≤_}
 use mathlib.Core.List.{List, []}
 use lib.ListN.{length}
-use Rattle.fields.specs.declared.layout.Field.{Field}
-use Rattle.fields.specs.declared.layout.Field.the-variants.{Uint, Vector}
 use Rattle.fields.specs.Checked.{Checked, good, bad}
 use Rattle.fields.specs.Write.{numberIn}
 use Rattle.item.specs.declared.table.Case.{Case}
@@ -16,11 +14,6 @@ use Rattle.item.specs.declared.writer.Numbers.{Numbers}
 use Rattle.item.specs.declared.heads.Head.{Head}
 use Rattle.item.specs.declared.heads.Head.the-variants.{Read, Unreadable}
 use Rattle.item.specs.Item.{Vectors, vectors, valueOf}
-
--- a vector that is short enough for sums of places
-abbrev pub Narrow : Field → Type 0
-Narrow (Uint w) = Unit
-Narrow (Vector w least most i) = most < 2 ^ 32
 
 -- what the search for a type says
 abbrev pub known : Known → Checked Case

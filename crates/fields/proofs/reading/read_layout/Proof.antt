@@ -1,8 +1,8 @@
 use mathlib.Core.Path.{_≡_, refl, ap, sym, _∙_}
 use mathlib.Core.List.{List}
-use Prim.Native.Nat.{ℕ, _+_, _-_, _≤_, _<_}
+use Prim.Native.Nat.{ℕ, _+_, _-_, _^_, _≤_, _<_}
 use native.Mathlib.Omega.{arith}
-use lib.ListN.{length, take, drop, getD}
+use lib.ListN.{length, take, drop, getD, length-drop}
 use lib.Seq.{length-take-le, getD-take}
 use borrow.Author.Needs.{needs}
 use Rattle.octets.specs.declared.number.Width.the-variants.{One}
@@ -12,13 +12,13 @@ use Rattle.fields.specs.declared.layout.Field.the-variants.{Uint}
 use Rattle.fields.specs.declared.layout.FieldRead.the-variants.{Found}
 use Rattle.fields.specs.Layout.{field, read, found}
 use Rattle.fields.specs.Answers.{layoutRead}
-use Rattle.fields.proofs.Founds.{found-inside}
+use Rattle.fields.proofs.Founds.{found-within}
 use Rattle.fields.proofs.Resuming.{Held, held-first, held-stops, held-goes, held-extra, held-all}
 use Rattle.fields.proofs.reading.read_layout.Statement.{statement}
 use Rattle.fields.proofs.reading.read_layout.Tie as tie
 
 abbrev Inv-loop : tie.InvT-loop
-Inv-loop s at count layout parts₀ n here₀ i₀ parts here i = (i ≤ n) × (n ≤ 8) × (length layout ≡ 8) × Held (take n layout) s at parts here i
+Inv-loop s at count layout parts₀ n here₀ i₀ parts here i = (i ≤ n) × (n ≤ 8) × (length layout ≡ 8) × (here < 2 ^ 64) × Held (take n layout) s at parts here i
 
 abbrev μ-loop : tie.MeasureT-loop
 μ-loop s at count layout parts₀ n here₀ i₀ parts here i = n - i
@@ -26,7 +26,7 @@ abbrev μ-loop : tie.MeasureT-loop
 loop-holds : tie.Need-loop-holds Inv-loop μ-loop
 loop-holds c =
     let a = c .before .before .args in
-    (omega arith, c .counted .ensures .0, search needs, held-first (take (c .counted .result) (a .t3)) (a .s .now) (a .at))
+    (omega arith, c .counted .ensures .0, search needs, omega (arith, c .before .before .fits .at), held-first (take (c .counted .result) (a .t3)) (a .s .now) (a .at))
 
 -- the field at the loop's place
 abbrev top : tie.After-read-field Inv-loop μ-loop → tie.At-loop Inv-loop μ-loop
@@ -58,7 +58,7 @@ returns c =
     let f = c .before .before .before in
     let l = top f in
     let a = entry l .args in
-    held-stops (layout l) (a .s .now) (a .at) (l .loop .parts) (l .loop .here) (l .loop .i) (omega (arith, l .loop .inv .1)) (l .loop .inv .3) (left f) _ (is f) _ _ (sym (f .read-field .ensures) ∙ c .before .r .given .1)
+    held-stops (layout l) (a .s .now) (a .at) (l .loop .parts) (l .loop .here) (l .loop .i) (omega (arith, l .loop .inv .1)) (l .loop .inv .4) (left f) _ (is f) _ _ (sym (f .read-field .ensures) ∙ c .before .r .given .1)
     ∙ whole l
 
 abbrev F : tie.After-struct-known Inv-loop μ-loop → tie.After-read-field Inv-loop μ-loop
@@ -70,11 +70,16 @@ P c = c .before .before .r2 .given .0 .0
 here : (c : tie.After-struct-known Inv-loop μ-loop) → (let l = top (F c) in let a = entry l .args in field (getD (a .t3) (l .loop .i) (Uint One)) (drop (l .loop .here) (a .s .now)) (l .loop .here) ≡ Found (P c))
 here c = sym (F c .read-field .ensures) ∙ c .before .before .r2 .given .1
 
-add-here : tie.Need-add-here Inv-loop μ-loop
-add-here c =
+-- it ends where a place can be
+near : (c : tie.After-struct-known Inv-loop μ-loop) → P c .start + P c .len < 2 ^ 64
+near c =
     let l = top (F c) in
     let a = entry l .args in
-    omega (arith, found-inside (getD (a .t3) (l .loop .i) (Uint One)) (a .s .now) (l .loop .here) (P c) (here c))
+    let h = l .loop .here in
+    omega (arith, found-within (getD (a .t3) (l .loop .i) (Uint One)) (drop h (a .s .now)) h (P c) (here c), length-drop h (a .s .now), l .loop .inv .3)
+
+add-here : tie.Need-add-here Inv-loop μ-loop
+add-here c = omega (arith, near c)
 
 loop-again : tie.Need-loop-again Inv-loop μ-loop
 loop-again c =
@@ -84,21 +89,22 @@ loop-again c =
       omega arith,
       l .loop .inv .1,
       l .loop .inv .2,
-      held-goes (layout l) (a .s .now) (a .at) (l .loop .parts) (l .loop .here) (l .loop .i) (omega (arith, l .loop .inv .1)) (l .loop .inv .3) (left f) _ (is f) (P c) (omega (arith, l .loop .inv .1)) (here c),
+      near c,
+      held-goes (layout l) (a .s .now) (a .at) (l .loop .parts) (l .loop .here) (l .loop .i) (omega (arith, l .loop .inv .1)) (l .loop .inv .4) (left f) _ (is f) (P c) (omega (arith, l .loop .inv .1)) (here c),
     )
 
 returns-2 : tie.Need-returns-2 Inv-loop μ-loop
 returns-2 c =
     let l = c .before .before in
     let a = entry l .args in
-    held-extra (layout l) (a .s .now) (a .at) (l .loop .parts) (l .loop .here) (l .loop .i) (omega (arith, l .loop .inv .1)) (l .loop .inv .3) (omega (arith, count l)) (omega arith)
+    held-extra (layout l) (a .s .now) (a .at) (l .loop .parts) (l .loop .here) (l .loop .i) (omega (arith, l .loop .inv .1)) (l .loop .inv .4) (omega (arith, count l)) (omega arith)
     ∙ whole l
 
 returns-3 : tie.Need-returns-3 Inv-loop μ-loop
 returns-3 c =
     let l = c .before .before in
     let a = entry l .args in
-    held-all (layout l) (a .s .now) (a .at) (l .loop .parts) (l .loop .here) (l .loop .i) (omega (arith, l .loop .inv .1)) (l .loop .inv .3) (omega (arith, count l)) (omega arith)
+    held-all (layout l) (a .s .now) (a .at) (l .loop .parts) (l .loop .here) (l .loop .i) (omega (arith, l .loop .inv .1)) (l .loop .inv .4) (omega (arith, count l)) (omega arith)
     ∙ whole l
 
 pub read-layout-spec : {M : Type 1} → statement M
