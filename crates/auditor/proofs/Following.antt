@@ -7,7 +7,7 @@ use lib.ListN.{length, take, drop, length-drop}
 use lib.Seq.{take-all, drop-drop}
 use Rattle.carry.specs.Forward.{carry}
 use Rattle.carry.specs.Compare.{compare}
-use Rattle.auditor.specs.Heads.{sizeOf, rootOf, pathOf, headBytes, headsOf}
+use Rattle.auditor.specs.Heads.{headSize, headRoot, headPath, headBytes, headsOf}
 use Rattle.auditor.specs.Dispute.{Finding, refused, settled, onward, longestPath, follow}
 use Rattle.auditor.proofs.Reading.{heads-end, heads-truncated, heads-then}
 
@@ -40,7 +40,7 @@ module _ (H : List ℕ → List ℕ) (place : ℕ) (page₁ page₂ path₂ head
     pub left-then :
         (leaf : List ℕ) (l : ℕ) → (n ≡ 0 → ⊥) → leaf ≡ H (0 ∷ page₁) → l ≡ pair →
         Left at m r p
-        ≡ onward (carry H leaf place m (sizeOf rest) r (rootOf rest) p (pathOf rest) longestPath l) (follow H place page₁ page₂ path₂ pair (headsOf (drop (at + n) heads)) (sizeOf rest) (rootOf rest))
+        ≡ onward (carry H leaf place m (headSize rest) r (headRoot rest) p (headPath rest) longestPath l) (follow H place page₁ page₂ path₂ pair (headsOf (drop (at + n) heads)) (headSize rest) (headRoot rest))
     unfolding follow
     left-then leaf l z g k =
         rw (heads-then (drop at heads) (λ y. z (sym bytes ∙ y)), bytes, drop-drop n at heads, e, g, k)

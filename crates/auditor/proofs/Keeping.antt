@@ -4,12 +4,12 @@ use mathlib.Core.Path.{_≡_, refl, sym, ap, _∙_}
 use mathlib.Core.Bool.{Bool, true, false, cond, not, _||_}
 use mathlib.Core.Logic.{⊎-elim}
 use mathlib.Core.List.{List, [], _∷_, _++_, append-assoc, append-nil}
-use Prim.Native.Nat.{ℕ, zero, suc, _+_, _-_, _*_, _/_, _%_, _≤_}
+use Prim.Native.Nat.{ℕ, zero, suc, _+_, _-_, _*_, _/_, _%_, _≤_, _<_}
 use native.Mathlib.Omega.{arith}
 use lib.Dec.{ltb, eqb}
 use lib.ListN.{length, take, drop, length-append}
 use lib.Seq.{take-at, drop-at, drop-drop, length-take-le}
-use borrow.Author.Tests.{eqb-true}
+use borrow.Author.Tests.{eqb-true, eqb-false}
 use Rattle.hash.specs.Digest.{sha256}
 use Rattle.tree.specs.Limits.{mostNodes}
 use Rattle.tree.specs.Build.{Outcome, refused, wrote, into}
@@ -31,10 +31,11 @@ use Rattle.auditor.specs.Calls.{Call, offer, ask, Entry, answered, calle
 use Rattle.auditor.specs.Claims.{lastHead}
 use Rattle.auditor.specs.Dispute.{dispute, disputeReport, pairDisputed}
 use Rattle.auditor.specs.Demand.{Settles}
-use Rattle.auditor.specs.Keeping.{kept, lost, noted, ifKept, journaled, Joins, JournalJoins, longestHead, LongEnough, AsKept}
+use Rattle.auditor.specs.Keeping.{kept, lost, noted, ifKept, journaled, Joins, JournalJoins, AppendedReadsBack, longestHead, LongEnough, AsKept}
 use Rattle.auditor.proofs.Offering.{passed, taken, view-held, view-empty}
 use Rattle.auditor.proofs.Holding.{held-is-accepted}
-use Rattle.auditor.proofs.Journaling.{one-head, head-length, fits}
+use Rattle.auditor.proofs.Journaling.{one-head, head-length, root-short, path-long, path-part, fits}
+use Rattle.auditor.proofs.Reading.{heads-end, one-back}
 use Rattle.auditor.proofs.Settling.{Agrees, agrees, demand3}
 
 pub no-lost : (b : List ℕ) (u n : ℕ) → lost n ≡ kept b u → ⊥
@@ -80,6 +81,28 @@ wrote-head room used size root path w e = one (not (eqb (length root) 32) || ltb
         (w ≡ joinedHeads (then size root path end)) × (used + length w ≤ room)
     one true f = absurd (no-write 5 w f)
     one false f = two (not (eqb (length path % 32) 0)) f
+
+-- such a head fits its fields
+wrote-fits : (room used size : ℕ) (root path w : List ℕ) → append room used size root path ≡ wrote w → (length root ≡ 32) × (length path ≤ 32 * mostCount) × (length path % 32 ≡ 0)
+wrote-fits room used size root path w e =
+    let r = root-32 (eqb (length root) 32) refl in
+    let f = ⊎-elim (λ l. absurd (no-write 5 w (sym (path-long room used size root path r l) ∙ e))) (λ l. l) (lt-or-ge (32 * mostCount) (length path)) in
+    (r, f, whole r f (eqb (length path % 32) 0) refl)
+  where
+    root-32 : (b : Bool) → eqb (length root) 32 ≡ b → length root ≡ 32
+    root-32 true q = eqb-true _ _ q
+    root-32 false q = absurd (no-write 5 w (sym (root-short room used size root path (eqb-false _ _ q)) ∙ e))
+
+    whole : length root ≡ 32 → length path ≤ 32 * mostCount → (b : Bool) → eqb (length path % 32) 0 ≡ b → length path % 32 ≡ 0
+    whole r f true q = eqb-true _ _ q
+    whole r f false q = absurd (no-write 10 w (sym (path-part room used size root path r f (eqb-false _ _ q)) ∙ e))
+
+pub appended-back : AppendedReadsBack
+unfolding joinedHeads
+appended-back room used size root path w small e =
+    let f = wrote-fits room used size root path w e in
+    let few : length path / 32 < 65536 = omega (arith, f .1) in
+    ap headsOf (wrote-head room used size root path w e .0) ∙ one-back size root path [] small (f .0) (f .2) few ∙ ap (then size root path) (heads-end [] refl)
 
 -- ---- the journal joins the accepted heads
 

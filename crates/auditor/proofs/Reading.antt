@@ -12,24 +12,24 @@ use borrow.Author.Tests.{lt-ltb, le-ltb, eq-eqb, ne-eqb}
 use Rattle.octets.specs.Numbers.{be}
 use Rattle.octets.proofs.Numbers.{be-length, unbe-be}
 use Rattle.octets.proofs.Order.{lt-or-ge}
-use Rattle.auditor.specs.Heads.{Heads, end, truncated, then, joinedHeads, sizeOf, rootOf, countOf, pathOf, headBytes, headsIn, headsOf}
+use Rattle.auditor.specs.Heads.{Heads, end, truncated, then, joinedHeads, headSize, headRoot, headCount, headPath, headBytes, headsIn, headsOf}
 
 -- the first head is whole, or cut short
-pub bytes-whole : (s : List ℕ) → 42 + 32 * countOf s ≤ length s → headBytes s ≡ 42 + 32 * countOf s
+pub bytes-whole : (s : List ℕ) → 42 + 32 * headCount s ≤ length s → headBytes s ≡ 42 + 32 * headCount s
 unfolding headBytes
-bytes-whole s h = rw (le-ltb (length s) 42 (omega arith), le-ltb (length s - 42) (32 * countOf s) (omega arith))
+bytes-whole s h = rw (le-ltb (length s) 42 (omega arith), le-ltb (length s - 42) (32 * headCount s) (omega arith))
 
-pub bytes-truncated : (s : List ℕ) → length s < 42 + 32 * countOf s → headBytes s ≡ 0
+pub bytes-truncated : (s : List ℕ) → length s < 42 + 32 * headCount s → headBytes s ≡ 0
 unfolding headBytes
 bytes-truncated s h =
     ⊎-elim (λ l. rw (lt-ltb (length s) 42 l))
-    (λ l. rw (le-ltb (length s) 42 l, lt-ltb (length s - 42) (32 * countOf s) (omega arith)))
+    (λ l. rw (le-ltb (length s) 42 l, lt-ltb (length s - 42) (32 * headCount s) (omega arith)))
     (lt-or-ge (length s) 42)
 
 -- a whole head has bytes, and they are there
-pub bytes-there : (s : List ℕ) → (headBytes s ≡ 0 → ⊥) → (headBytes s ≡ 42 + 32 * countOf s) × (42 + 32 * countOf s ≤ length s)
+pub bytes-there : (s : List ℕ) → (headBytes s ≡ 0 → ⊥) → (headBytes s ≡ 42 + 32 * headCount s) × (42 + 32 * headCount s ≤ length s)
 bytes-there s z =
-    ⊎-elim (λ l. absurd (z (bytes-truncated s l))) (λ l. (bytes-whole s l, l)) (lt-or-ge (length s) (42 + 32 * countOf s))
+    ⊎-elim (λ l. absurd (z (bytes-truncated s l))) (λ l. (bytes-whole s l, l)) (lt-or-ge (length s) (42 + 32 * headCount s))
 
 pub bytes-least : (s : List ℕ) → (headBytes s ≡ 0 → ⊥) → (42 ≤ headBytes s) × (headBytes s ≤ length s)
 bytes-least s z = let b = bytes-there s z in (omega arith, omega arith)
@@ -50,7 +50,7 @@ fuel (suc f) (suc g) s h k =
     ap (λ (hs : Heads).
     cond (eqb (length s) 0) end
     (cond (eqb (headBytes s) 0) truncated
-    (then (sizeOf s) (rootOf s) (pathOf s) hs)))
+    (then (headSize s) (headRoot s) (headPath s) hs)))
     (fuel f g (drop (headBytes s) s) (omega arith) (omega arith)))
     (lt-or-ge (headBytes s) 1)
 
@@ -65,13 +65,13 @@ pub heads-truncated : (s : List ℕ) → (length s ≡ 0 → ⊥) → headBytes 
 unfolding headsIn
 heads-truncated s z e = opened s ∙ rw (ne-eqb (length s) 0 z, eq-eqb (headBytes s) 0 e)
 
-pub heads-then : (s : List ℕ) → (headBytes s ≡ 0 → ⊥) → headsOf s ≡ then (sizeOf s) (rootOf s) (pathOf s) (headsOf (drop (headBytes s) s))
+pub heads-then : (s : List ℕ) → (headBytes s ≡ 0 → ⊥) → headsOf s ≡ then (headSize s) (headRoot s) (headPath s) (headsOf (drop (headBytes s) s))
 unfolding headsIn
 heads-then s z =
     let b = bytes-least s z in
     let d = length-drop (headBytes s) s in
     opened s ∙ rw (ne-eqb (length s) 0 (λ e. omega arith), ne-eqb (headBytes s) 0 z)
-    (ap (then (sizeOf s) (rootOf s) (pathOf s)) (fuel (length s) (length (drop (headBytes s) s)) (drop (headBytes s) s) (omega arith) (omega arith)))
+    (ap (then (headSize s) (headRoot s) (headPath s)) (fuel (length s) (length (drop (headBytes s) s)) (drop (headBytes s) s) (omega arith) (omega arith)))
 
 -- heads that fit their fields, all of them whole
 unfoldable pub Fits : Heads → Type 0
@@ -92,11 +92,11 @@ module _ (size : ℕ) (root path rest : List ℕ) (small : size < 256 ^ 8) (root
   all : List ℕ
   all = be 8 size ++ (root ++ after-root)
 
-  reads-size : sizeOf all ≡ size
+  reads-size : headSize all ≡ size
   unfolding all
   reads-size = rw (take-at (be 8 size) (root ++ after-root) 8 (be-length 8 size)) (unbe-be 8 size small)
 
-  reads-root : rootOf all ≡ root
+  reads-root : headRoot all ≡ root
   unfolding all
   reads-root = rw (drop-at (be 8 size) (root ++ after-root) 8 (be-length 8 size)) (take-at root after-root 32 root-32)
 
@@ -104,7 +104,7 @@ module _ (size : ℕ) (root path rest : List ℕ) (small : size < 256 ^ 8) (root
   unfolding all
   to-count = skip (be 8 size) (root ++ after-root) 8 32 (be-length 8 size) ∙ drop-at root after-root 32 root-32
 
-  reads-count : countOf all ≡ count
+  reads-count : headCount all ≡ count
   unfolding after-root count
   reads-count = rw (to-count, take-at (be 2 (length path / 32)) (path ++ rest) 2 (be-length 2 (length path / 32))) (unbe-be 2 (length path / 32) few)
 
@@ -116,7 +116,7 @@ module _ (size : ℕ) (root path rest : List ℕ) (small : size < 256 ^ 8) (root
   unfolding count
   nodes-all = omega arith
 
-  reads-path : pathOf all ≡ path
+  reads-path : headPath all ≡ path
   reads-path = rw (reads-count, to-path) (take-at path rest (32 * count) (sym nodes-all))
 
   all-length : length all ≡ 42 + (length path + length rest)
@@ -151,7 +151,7 @@ read-back (then size root path hs) f =
     one-back size root path (joinedHeads hs) (w .0) (w .1) (w .2) (w .3) ∙ ap (then size root path) (read-back hs (f .1))
 
 -- a head whose bytes are counted is whole
-pub head-whole : (s : List ℕ) (n : ℕ) → n ≡ headBytes s → (n ≡ 0 → ⊥) → (42 ≤ n) × (n ≤ length s) × (n - 42 ≡ 32 * countOf s)
+pub head-whole : (s : List ℕ) (n : ℕ) → n ≡ headBytes s → (n ≡ 0 → ⊥) → (42 ≤ n) × (n ≤ length s) × (n - 42 ≡ 32 * headCount s)
 head-whole s n e z =
     let b = bytes-there s (λ y. z (e ∙ y)) in
     (omega arith, omega arith, omega arith)

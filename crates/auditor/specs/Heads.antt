@@ -7,7 +7,7 @@ use lib.Dec.{ltb, eqb}
 use lib.ListN.{length, take, drop}
 use Rattle.octets.specs.Numbers.{be, unbe}
 
--- `cut` where a buffer ends within a head
+-- `truncated` where a buffer ends within a head
 pub data Heads : Type 0 where
   end : Heads
   truncated : Heads
@@ -20,21 +20,21 @@ joinedHeads truncated = []
 joinedHeads (then size root path hs) = be 8 size ++ (root ++ (be 2 (length path / 32) ++ (path ++ joinedHeads hs)))
 
 -- the parts of the first head
-abbrev pub sizeOf : List ℕ → ℕ
-sizeOf s = unbe (take 8 s)
+abbrev pub headSize : List ℕ → ℕ
+headSize s = unbe (take 8 s)
 
-abbrev pub rootOf : List ℕ → List ℕ
-rootOf s = take 32 (drop 8 s)
+abbrev pub headRoot : List ℕ → List ℕ
+headRoot s = take 32 (drop 8 s)
 
-abbrev pub countOf : List ℕ → ℕ
-countOf s = unbe (take 2 (drop 40 s))
+abbrev pub headCount : List ℕ → ℕ
+headCount s = unbe (take 2 (drop 40 s))
 
-abbrev pub pathOf : List ℕ → List ℕ
-pathOf s = take (32 * countOf s) (drop 42 s)
+abbrev pub headPath : List ℕ → List ℕ
+headPath s = take (32 * headCount s) (drop 42 s)
 
 -- how many bytes it has, or 0 where it is cut short
 unfoldable pub headBytes : List ℕ → ℕ
-headBytes s = cond (ltb (length s) 42) 0 (cond (ltb (length s - 42) (32 * countOf s)) 0 (42 + 32 * countOf s))
+headBytes s = cond (ltb (length s) 42) 0 (cond (ltb (length s - 42) (32 * headCount s)) 0 (42 + 32 * headCount s))
 
 -- the heads that a buffer joins; f bounds how many
 unfoldable pub headsIn : ℕ → List ℕ → Heads
@@ -42,7 +42,7 @@ headsIn zero s = end
 headsIn (suc f) s =
     cond (eqb (length s) 0) end
     (cond (eqb (headBytes s) 0) truncated
-    (then (sizeOf s) (rootOf s) (pathOf s) (headsIn f (drop (headBytes s) s))))
+    (then (headSize s) (headRoot s) (headPath s) (headsIn f (drop (headBytes s) s))))
 
 abbrev pub headsOf : List ℕ → Heads
 headsOf s = headsIn (length s) s

@@ -2,14 +2,15 @@
 -- demand once more, said of what is kept and called. Assumes nothing: these are definitions and statements.
 use mathlib.Core.Path.{_≡_}
 use mathlib.Core.List.{List, [], _∷_, _++_}
-use Prim.Native.Nat.{ℕ, zero, suc, _+_, _*_, _≤_}
+use Prim.Native.Nat.{ℕ, zero, suc, _+_, _*_, _^_, _≤_, _<_}
 use lib.ListN.{length, take, drop}
 use Rattle.hash.specs.Digest.{sha256}
 use Rattle.tree.specs.Limits.{mostNodes}
+use Rattle.tree.specs.Build.{wrote}
 use Rattle.octets.specs.Answer.{Answer, done, refused}
 use Rattle.auditor.specs.declared.Record.{Record}
 use Rattle.auditor.specs.Held.{emptyRecord}
-use Rattle.auditor.specs.Heads.{joinedHeads, headsOf, howMany}
+use Rattle.auditor.specs.Heads.{end, then, joinedHeads, headsOf, howMany}
 use Rattle.auditor.specs.Journal.{append, appendReport, journalAfter}
 use Rattle.auditor.specs.Dispute.{dispute, disputeReport, pairDisputed}
 use Rattle.auditor.specs.Calls.{Call, offer, ask, Entry, answered, called, answers, final, heads}
@@ -49,6 +50,11 @@ pub record Joins (entries : List Entry) (lent bytes : List ℕ) (start used : �
 abbrev pub JournalJoins : Type 0
 JournalJoins =
     (entries : List Entry) (lent bytes : List ℕ) (start used : ℕ) → journaled entries lent start ≡ kept bytes used → Joins entries lent bytes start used
+
+-- a head that was appended reads back: two bytes hold the count of its nodes
+abbrev pub AppendedReadsBack : Type 0
+AppendedReadsBack =
+    (room used size : ℕ) (root path w : List ℕ) → size < 256 ^ 8 → append room used size root path ≡ wrote w → headsOf w ≡ then size root path end
 
 -- the bytes of the longest head: a consistency path has one node more than the longest inclusion path
 abbrev pub longestHead : ℕ

@@ -18,7 +18,7 @@ ghost use Rattle.hash.specs.Digest.{sha256};
 ghost use Rattle.tree.specs.Verdict.{inclusionVerdict};
 ghost use Rattle.carry.specs.Forward.{carry as carryTo, carrying, carryReport, pathCarried, pairCarried};
 ghost use Rattle.carry.specs.Compare.{compare as compareTo};
-ghost use Rattle.auditor.specs.Heads.{sizeOf, rootOf, countOf, pathOf, headsOf};
+ghost use Rattle.auditor.specs.Heads.{headSize, headRoot, headCount, headPath, headsOf};
 ghost use Rattle.auditor.specs.Dispute.{longestPath, settled, follow, settling, disputeReport, pairDisputed};
 ghost use Rattle.auditor.specs.Dispute as paper;
 
@@ -55,11 +55,11 @@ fn over_head(
     requires { ⌜
         (42 ≤ count)
         × (count ≤ length (now heads))
-        × (count - 42 ≡ 32 * countOf (now heads))
+        × (count - 42 ≡ 32 * headCount (now heads))
         × (length (now out) ≡ longestPath) ⌝ }
     ensures { λ r. ⌜
         (let s = now (heads .entry) in
-        let o = carryTo sha256 (now (leaf .entry)) place m (sizeOf s) (now (root .entry)) (rootOf s) (now (path .entry)) (pathOf s) longestPath
+        let o = carryTo sha256 (now (leaf .entry)) place m (headSize s) (now (root .entry)) (headRoot s) (now (path .entry)) (headPath s) longestPath
         (length (now (pair .entry))) in
         (carrying r ≡ carryReport o)
         × ((now (out .exit) ≡ pathCarried o (now (out .entry)))

@@ -5,12 +5,12 @@ use octets::number_at;
 ghost use mathlib.Core.Path.{_≡_};
 ghost use Prim.Native.Nat.{_≤_, _<_};
 ghost use lib.ListN.{length};
-ghost use Rattle.auditor.specs.Heads.{sizeOf, countOf, headBytes};
+ghost use Rattle.auditor.specs.Heads.{headSize, headCount, headBytes};
 
 // The size of the first head.
 pub(crate) fn size_of(s: &[u8]) -> u64
     requires { ⌜ 42 ≤ length (now s) ⌝ }
-    ensures { λ r. ⌜ r ≡ sizeOf (now (s .entry)) ⌝ }
+    ensures { λ r. ⌜ r ≡ headSize (now (s .entry)) ⌝ }
 {
     number_at(s, 0, Width::Eight)
 }
@@ -18,7 +18,7 @@ pub(crate) fn size_of(s: &[u8]) -> u64
 // The count of nodes of the first head.
 fn count_of(s: &[u8]) -> u64
     requires { ⌜ 42 ≤ length (now s) ⌝ }
-    ensures { λ r. ⌜ (r ≡ countOf (now (s .entry))) × (r < 65536) ⌝ }
+    ensures { λ r. ⌜ (r ≡ headCount (now (s .entry))) × (r < 65536) ⌝ }
 {
     number_at(s, 40, Width::Two)
 }

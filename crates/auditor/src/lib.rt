@@ -16,7 +16,7 @@ ghost use Rattle.auditor.specs.Dispute.{settling};
 ghost use Rattle.auditor.specs.Journal.{appending};
 ghost use Rattle.auditor.specs.Held.{emptyRecord, stayed};
 ghost use Rattle.auditor.specs.Demand.{Demand3, WhateverGiven, TwoAuditors};
-ghost use Rattle.auditor.specs.Keeping.{JournalJoins, LongEnough, AsKept};
+ghost use Rattle.auditor.specs.Keeping.{JournalJoins, AppendedReadsBack, LongEnough, AsKept};
 ghost use Rattle.auditor.specs.Examples.{Disputed};
 ghost use Rattle.auditor.specs.Timestamps.{OneTimestamp, HeldAgain, OnlyStricter};
 ghost use Rattle.auditor.specs.Claims.{HeldIsAccepted, RefusedAddNothing, NeverBack, HonestLog, GrownHeads};
@@ -68,6 +68,7 @@ pub fn claims()
     ensures demand3 { λ _. ⌜ Demand3 ⌝ }
     ensures as_kept { λ _. ⌜ AsKept ⌝ }
     ensures journal_joins { λ _. ⌜ JournalJoins ⌝ }
+    ensures appended_reads_back { λ _. ⌜ AppendedReadsBack ⌝ }
     ensures long_enough { λ _. ⌜ LongEnough ⌝ }
     ensures whatever_given { λ _. ⌜ WhateverGiven ⌝ }
     ensures two_auditors { λ _. ⌜ TwoAuditors ⌝ }

@@ -23,7 +23,7 @@ use Rattle.growing.specs.Limits.{mostHashes}
 use Rattle.growing.specs.Hashes.{digest, nothing, fresh, counting, withLeaf, withLeaves}
 use Rattle.growing.specs.Calls.{Call, ofPage, ofLeaves, roomNumber, callNumber, brought, grownBy, treeAfter, leavesTaken, allBrought, AllAccepted}
 use Rattle.growing.specs.Claims.{Follows, FollowsAll, HoweverCut, AllTaken, RefusedUnchanged, Takes}
-use Rattle.growing.proofs.Holding.{Holds, holds-none, holds-more, holds-full, holds-at, holds-zeros, carried-length, length-snoc}
+use Rattle.growing.proofs.Holding.{Holds, holds-none, holds-more, holds-full, holds-at, holds-zeros, merged-length, length-snoc}
 use Rattle.growing.proofs.Stepping.{root-now-of}
 use Rattle.growing.proofs.Adding.{given, room-fits, refused, accepted, with-append, with-count}
 
@@ -44,7 +44,7 @@ module _ (H : List ℕ → List ℕ) where
       let d = p .counted in
       let n = length-snoc l x in
       let r : g .count + 1 < 2 ^ length (g .hashes) = rw e (omega arith) in
-      record { levels = carried-length H (g .hashes) (g .count) (digest x) ∙ e; counted = omega arith; held = holds-more H (g .hashes) l (g .count) (digest x) d r (p .held) }
+      record { levels = merged-length H (g .hashes) (g .count) (digest x) ∙ e; counted = omega arith; held = holds-more H (g .hashes) l (g .count) (digest x) d r (p .held) }
 
   -- more leaves, where the levels have room for them
   pub has-more : (k : ℕ) (g : Growing) (l m : List (List ℕ)) → length l + length m < 2 ^ k → Has k g l → Has k (withLeaves H g m) (l ++ m)

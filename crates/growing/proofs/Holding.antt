@@ -17,7 +17,7 @@ use Rattle.tree.specs.Full.{fullRoots, pairs}
 use Rattle.tree.proofs.Rfc.{root-one}
 use Rattle.tree.proofs.Halving.{pairs-length, pairs-append, root-block}
 use Rattle.tree.proofs.Full.{full-none, full-even, full-odd}
-use Rattle.growing.specs.Hashes.{nothing, over, counting, carried}
+use Rattle.growing.specs.Hashes.{nothing, parent, counting, merged}
 use Rattle.growing.specs.Claims.{lastFull}
 
 -- the length of a list with one more
@@ -57,18 +57,18 @@ module _ (H : List ℕ → List ℕ) where
   holds-none zero = refl
   holds-none (suc k) = inl (refl, refl, holds-none k)
 
-  pub carried-length : (s : List Digest) (n : ℕ) (x : Digest) → length (carried H s n x) ≡ length s
-  unfolding carried
-  carried-length [] n x = refl
-  carried-length (h ∷ s) n x = either (eqb (n % 2) 0) (x ∷ s) (nothing ∷ carried H s (n / 2) (over H h x)) refl (ap suc (carried-length s (n / 2) (over H h x)))
+  pub merged-length : (s : List Digest) (n : ℕ) (x : Digest) → length (merged H s n x) ≡ length s
+  unfolding merged
+  merged-length [] n x = refl
+  merged-length (h ∷ s) n x = either (eqb (n % 2) 0) (x ∷ s) (nothing ∷ merged H s (n / 2) (parent H h x)) refl (ap suc (merged-length s (n / 2) (parent H h x)))
 
   pairs-two : (l : List (List ℕ)) (a b : List ℕ) → length l % 2 ≡ 0 → pairs H ((l ++ (a ∷ [])) ++ (b ∷ [])) ≡ pairs H l ++ (node H a b ∷ [])
   unfolding pairs
   pairs-two l a b e = ap (pairs H) (append-assoc l (a ∷ []) (b ∷ [])) ∙ pairs-append H l (a ∷ (b ∷ [])) e
 
   -- one more leaf, where the levels have room for it
-  pub holds-more : (s : List Digest) (l : List (List ℕ)) (n : ℕ) (x : Digest) → n ≡ length l → n + 1 < 2 ^ length s → Holds s l → Holds (carried H s n x) (l ++ (x .bytes ∷ []))
-  unfolding Holds carried
+  pub holds-more : (s : List Digest) (l : List (List ℕ)) (n : ℕ) (x : Digest) → n ≡ length l → n + 1 < 2 ^ length s → Holds s l → Holds (merged H s n x) (l ++ (x .bytes ∷ []))
+  unfolding Holds merged
   holds-more [] l n x e room p = absurd (omega arith)
   holds-more (h ∷ s) l n x e room (inl (even, blank, p)) = rw (eq-eqb (n % 2) 0 (omega arith)) (inr (l, refl, even, p))
   holds-more (h ∷ s) l n x e room (inr (rest, d, even, p)) =
@@ -82,7 +82,7 @@ module _ (H : List ℕ → List ℕ) where
         omega arith,
         refl,
         rw (d, pairs-two rest (h .bytes) (x .bytes) even)
-            (holds-more s (pairs H rest) (n / 2) (over H h x) (omega arith) (omega arith) p),
+            (holds-more s (pairs H rest) (n / 2) (parent H h x) (omega arith) (omega arith) p),
       ))
 
   -- those that count are the roots of the full subtrees

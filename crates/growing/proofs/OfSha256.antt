@@ -9,13 +9,13 @@ use Rattle.hash.specs.Answers.{valueNumber, valueBytes}
 use Rattle.hash.specs.declared.Digest.{Digest}
 use Rattle.hash.proofs.Promises.{sha256-length}
 use Rattle.tree.specs.Tree.{leaf, node}
-use Rattle.growing.specs.Hashes.{digest, over}
+use Rattle.growing.specs.Hashes.{digest, parent}
 use Rattle.growing.proofs.Adding.{value-0}
 
 -- what `hash::node` answers
-pub node-over : (a b r : Digest) → r .bytes ≡ nodeHash (a .bytes) (b .bytes) → r ≡ over sha256 a b
+pub node-parent : (a b r : Digest) → r .bytes ≡ nodeHash (a .bytes) (b .bytes) → r ≡ parent sha256 a b
 unfolding node
-node-over a b r e = ap digest e
+node-parent a b r e = ap digest e
 
 -- what `hash::leaf` answers
 pub leaf-value : (page r : List ℕ) → valueNumber mostItem page ≡ 0 → r ≡ valueBytes mostItem page (leafHash page) → r ≡ leaf sha256 page

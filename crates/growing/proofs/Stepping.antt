@@ -13,7 +13,7 @@ use Rattle.tree.specs.Full.{together}
 use Rattle.tree.proofs.Full.{together-one, together-two}
 use Rattle.growing.specs.declared.Growing.{Growing}
 use Rattle.growing.specs.Calls.{rootInto}
-use Rattle.growing.specs.Hashes.{digest, nothing, over, counting, carried, withLeaf, rootNow}
+use Rattle.growing.specs.Hashes.{digest, nothing, parent, counting, merged, withLeaf, rootNow}
 
 -- what is read past the end
 abbrev pub past : Digest
@@ -34,21 +34,21 @@ module _ (s : List Digest) (i : ℕ) (x : Digest) (h : i < length s) where
   drop-set = ap (λ (k : ℕ). drop k (set s i x)) (add-one i) ∙ ap (drop (suc i)) cut ∙ drop-at (take i s ++ (x ∷ [])) (drop (suc i) s) (suc i) long ∙ sym (ap (λ (k : ℕ). drop k s) (add-one i))
 
 module _ (H : List ℕ → List ℕ) (s : List Digest) (i n : ℕ) (x : Digest) where
-  pub carried-here : i < length s → n % 2 ≡ 0 → take i s ++ carried H (drop i s) n x ≡ set s i x
-  unfolding carried
-  carried-here h e = rw (drop-cons s i past h, eq-eqb (n % 2) 0 e, set-split s i x h)
+  pub merged-here : i < length s → n % 2 ≡ 0 → take i s ++ merged H (drop i s) n x ≡ set s i x
+  unfolding merged
+  merged-here h e = rw (drop-cons s i past h, eq-eqb (n % 2) 0 e, set-split s i x h)
 
-  pub carried-up :
+  pub merged-up :
       i < length s → (n % 2 ≡ 0 → ⊥) →
-      take i s ++ carried H (drop i s) n x ≡ take (i + 1) (set s i nothing) ++ carried H (drop (i + 1) (set s i nothing)) (n / 2) (over H (getD s i past) x)
-  unfolding carried
-  carried-up h e =
+      take i s ++ merged H (drop i s) n x ≡ take (i + 1) (set s i nothing) ++ merged H (drop (i + 1) (set s i nothing)) (n / 2) (parent H (getD s i past) x)
+  unfolding merged
+  merged-up h e =
       rw (drop-cons s i past h, ne-eqb (n % 2) 0 e, take-set s i nothing h, drop-set s i nothing h, add-one i)
-      (sym (append-snoc (take i s) nothing (carried H (drop (suc i) s) (n / 2) (over H (getD s i past) x))))
+      (sym (append-snoc (take i s) nothing (merged H (drop (suc i) s) (n / 2) (parent H (getD s i past) x))))
 
-  pub carried-end : length s ≤ i → take i s ++ carried H (drop i s) n x ≡ s
-  unfolding carried
-  carried-end h = rw (drop-of-length-le s h, take-all i s h, append-nil s)
+  pub merged-end : length s ≤ i → take i s ++ merged H (drop i s) n x ≡ s
+  unfolding merged
+  merged-end h = rw (drop-of-length-le s h, take-all i s h, append-nil s)
 
 module _ (s : List Digest) (i n : ℕ) where
   pub counting-even : i < length s → n % 2 ≡ 0 → counting (drop i s) n ≡ counting (drop (i + 1) s) (n / 2)
@@ -71,7 +71,7 @@ module _ (H : List ℕ → List ℕ) (s : List Digest) (i n : ℕ) (right : List
   pub above-even : i < length s → n % 2 ≡ 0 → above H s i n right ≡ above H s (i + 1) (n / 2) right
   above-even h e = ap (λ (l : List (List ℕ)). together H (l ++ (right ∷ []))) (counting-even s i n h e)
 
-  pub above-odd : i < length s → (n % 2 ≡ 0 → ⊥) → above H s i n right ≡ above H s (i + 1) (n / 2) (over H (getD s i past) (digest right) .bytes)
+  pub above-odd : i < length s → (n % 2 ≡ 0 → ⊥) → above H s i n right ≡ above H s (i + 1) (n / 2) (parent H (getD s i past) (digest right) .bytes)
   above-odd h e =
       ap (λ (l : List (List ℕ)). together H (l ++ (right ∷ []))) (counting-odd s i n h e)
       ∙ together-two H (counting (drop (i + 1) s) (n / 2)) (getD s i past .bytes) right
@@ -83,7 +83,7 @@ module _ (H : List ℕ → List ℕ) (s : List Digest) (i n : ℕ) (right : List
 abbrev pub grown : List Digest → ℕ → Growing
 grown hashes count = record { hashes = hashes; count = count }
 
-pub with-leaf-of : (H : List ℕ → List ℕ) (g : Growing) (s : List Digest) (n : ℕ) (x : Digest) → s ≡ carried H (g .hashes) (g .count) x → n ≡ g .count + 1 → grown s n ≡ withLeaf H g x
+pub with-leaf-of : (H : List ℕ → List ℕ) (g : Growing) (s : List Digest) (n : ℕ) (x : Digest) → s ≡ merged H (g .hashes) (g .count) x → n ≡ g .count + 1 → grown s n ≡ withLeaf H g x
 unfolding withLeaf
 with-leaf-of H g s n x e d = ap₂ grown e d
 

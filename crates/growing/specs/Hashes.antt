@@ -31,18 +31,18 @@ counting (h ∷ s) n = cond (eqb (n % 2) 0) (counting s (n / 2)) (counting s (n 
 
 module _ (H : List ℕ → List ℕ) where
   -- the node over two hashes
-  abbrev pub over : Digest → Digest → Digest
-  over a b = digest (node H (a .bytes) (b .bytes))
+  abbrev pub parent : Digest → Digest → Digest
+  parent a b = digest (node H (a .bytes) (b .bytes))
 
   -- n hashes stand for the leaves at this level, and x comes after them. Where n is even, x waits here; else the last of them was waiting here, and the two
   -- go up as one
-  unfoldable pub carried : List Digest → ℕ → Digest → List Digest
-  carried [] n x = []
-  carried (h ∷ s) n x = cond (eqb (n % 2) 0) (x ∷ s) (nothing ∷ carried s (n / 2) (over h x))
+  unfoldable pub merged : List Digest → ℕ → Digest → List Digest
+  merged [] n x = []
+  merged (h ∷ s) n x = cond (eqb (n % 2) 0) (x ∷ s) (nothing ∷ merged s (n / 2) (parent h x))
 
   -- a growing tree with one more leaf hash, with more of them, and its root
   unfoldable pub withLeaf : Growing → Digest → Growing
-  withLeaf g x = record { hashes = carried (g .hashes) (g .count) x; count = g .count + 1 }
+  withLeaf g x = record { hashes = merged (g .hashes) (g .count) x; count = g .count + 1 }
 
   unfoldable pub withLeaves : Growing → List (List ℕ) → Growing
   withLeaves g [] = g

@@ -9,7 +9,7 @@ use denote.Ref.{now}
 use borrow.Author.Needs.{needs}
 use Rattle.hash.specs.Digest.{sha256}
 use Rattle.carry.specs.Forward.{carry, carrying}
-use Rattle.auditor.specs.Heads.{sizeOf, rootOf, pathOf, headsOf}
+use Rattle.auditor.specs.Heads.{headSize, headRoot, headPath, headsOf}
 use Rattle.auditor.specs.Dispute.{onward, longestPath, follow, disputeReport, pairDisputed}
 use Rattle.octets.proofs.Putting.{over-start}
 use Rattle.auditor.proofs.Reading.{head-whole}
@@ -88,8 +88,8 @@ turn : (c : tie.After-over-head Inv-loop μ-loop) →
     let L = K c .loop in
     let rest = take (length (now (a .heads)) - L .at) (drop (L .at) (now (a .heads))) in
     Left sha256 (a .place) (now (a .page1)) (now (a .page2)) (now (a .path2)) (now (a .heads)) (length (now (a .pair))) 0 (a .size) (now (a .root)) (now (a .path1))
-    ≡ onward (carry sha256 (a .one .bytes) (a .place) (L .m) (sizeOf rest) (L .held) (rootOf rest) (take (L .len) (L .path)) (pathOf rest) longestPath (length (L .pair)))
-    (follow sha256 (a .place) (now (a .page1)) (now (a .page2)) (now (a .path2)) (length (now (a .pair))) (headsOf (drop (L .at + O c .head-bytes .result) (now (a .heads)))) (sizeOf rest) (rootOf rest)))
+    ≡ onward (carry sha256 (a .one .bytes) (a .place) (L .m) (headSize rest) (L .held) (headRoot rest) (take (L .len) (L .path)) (headPath rest) longestPath (length (L .pair)))
+    (follow sha256 (a .place) (now (a .page1)) (now (a .page2)) (now (a .path2)) (length (now (a .pair))) (headsOf (drop (L .at + O c .head-bytes .result) (now (a .heads)))) (headSize rest) (headRoot rest)))
 turn c =
     let a = S (K c) .args in
     let L = K c .loop in
@@ -151,7 +151,7 @@ loop-again c =
     let L = K o .loop in
     let d = o .over-head .ensures in
     let rest = take (length (now (a .heads)) - L .at) (drop (L .at) (now (a .heads))) in
-    let q = carried-path _ (follow sha256 (a .place) (now (a .page1)) (now (a .page2)) (now (a .path2)) (length (now (a .pair))) (headsOf (drop (L .at + O o .head-bytes .result) (now (a .heads)))) (sizeOf rest) (rootOf rest)) _ _ _ (ap carrying (sym (c .before .before .before .before .carried2 .given .1)) ∙ d .0) (d .1 .0) in
+    let q = carried-path _ (follow sha256 (a .place) (now (a .page1)) (now (a .page2)) (now (a .path2)) (length (now (a .pair))) (headsOf (drop (L .at + O o .head-bytes .result) (now (a .heads)))) (headSize rest) (headRoot rest)) _ _ _ (ap carrying (sym (c .before .before .before .before .carried2 .given .1)) ∙ d .0) (d .1 .0) in
     let t = d .1 .1 ∙ q .2 (L .pair) ∙ L .inv .5 in (
       next c,
       within _ (o .over-head .last .1 .1 .1 .1 .1 .1 .1 .0) (q .1) (search needs),

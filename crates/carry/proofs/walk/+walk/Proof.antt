@@ -67,14 +67,14 @@ module _ (t : ℕ) (c : walk-lts.Else2 (calls t) (walk-at t) walk.Post) where
   two-parts : 1 < above .args .m
   two-parts = omega (arith, c .if2 .left, c .before .before .split-of .ensures .1)
 
-  same-cut : c .before .before .split-of .result ≡ split (above .args .m)
-  same-cut =
+  same-split : c .before .before .split-of .result ≡ split (above .args .m)
+  same-split =
       let e = c .before .before .split-of .ensures .0 in
       let lt = part t (c .before .before) in
       e ∙ sym (split-same (above .args .n) (above .args .m) (omega (arith, two-parts, lt)) (omega (arith, c .if2 .left, e)) (omega (arith, lt)))
 
   has-side : 0 < above .args .p
-  has-side = let i = count-some (above .args .x) (above .args .m) (c .before .before .split-of .result) two-parts same-cut in omega (arith, i, above .pre .1 .2)
+  has-side = let i = count-some (above .args .x) (above .args .m) (c .before .before .split-of .result) two-parts same-split in omega (arith, i, above .pre .1 .2)
 
 walk-yielded-root-requires : (t : ℕ) → walk-lts.Need-yielded-root-requires (calls t) (walk-at t) walk.Post
 walk-yielded-root-requires t c κs = search needs
@@ -190,21 +190,21 @@ walk-returns-3 t c =
     let some = has-node t at in
     let hi = here .if2 .left in
     let more = two-parts t here in
-    let cut = same-cut t here in
+    let same = same-split t here in
     let side = has-side t here in
     let l = c .before .before .before .before .before .before .before .if3 .taken in
     let top = here .before .node-at .ensures ∙ hash-in (a .q - 1) (now (a .proof)) (omega (arith, some, start .pre .1 .5)) in
     let beside = c .before .before .before .before .before .before .before .before .node-at2 .ensures ∙ hash-in (a .p - 1) (now (a .path)) (omega (arith, side, start .pre .1 .3)) in
     let w = c .before .before .before .before .before .yielded-roots2 .result .new .bytes in
     let d = sub-high (a .m) (a .n) k (a .known) z lt e hi in
-    let g = count-low (a .x) (a .m) k more cut l in
+    let g = count-low (a .x) (a .m) k more same l in
     let y = yielded-in sha256 (a .x) k (a .leaf .bytes) (now (a .path)) (a .p - 1) (omega (arith, g, start .pre .1 .2)) (omega (arith, start .pre .1 .3)) (c .before .before .before .before .before .before .yielded-root2 .ensures) in
     let r = both-in sha256 (a .m - k) (a .n - k) (a .first .bytes) (now (a .proof)) false (a .q - 1) (omega (arith, hi)) (omega (arith, lt)) (omega (arith, d, start .pre .1 .4)) (omega (arith, start .pre .1 .5)) (c .before .before .before .before .before .yielded-roots2 .ensures) in
     let nodes = firstNodes (a .q - 1) (now (a .proof)) in
     let all : All32 nodes = all-from 0 (a .q - 1) (now (a .proof)) (omega (arith, some, start .pre .1 .5)) in
     let len = ap length (r .1) ∙ new-32 sha256 sha256-length (a .m - k) (a .n - k) false (a .first .bytes) nodes (omega (arith, hi)) (λ t. absurd (false≢true t)) all (first-length (a .q - 1) (now (a .proof)) ∙ omega (arith, d, start .pre .1 .4)) (omega (arith, lt)) in
     let up = c .before .above .ensures in (
-      included-low sha256 (a .x) (a .m) k (a .leaf .bytes) (a .p) (now (a .path)) side more cut (up .0 .0) l y beside,
+      included-low sha256 (a .x) (a .m) k (a .leaf .bytes) (a .p) (now (a .path)) side more same (up .0 .0) l y beside,
       (
         old-high sha256 (a .m) (a .n) k (a .first .bytes) (a .q) (now (a .proof)) (a .known) z some lt e hi (up .0 .1) top (r .0),
         (
@@ -230,7 +230,7 @@ walk-walk-requires-2 t c κs =
     let a = entry t at .args in
     let lt = part t at in
     let d = sub-high (a .m) (a .n) (at .split-of .result) (a .known) (old t at) lt (at .split-of .ensures .0) (here .if2 .left) in
-    let f = count-high (a .x) (a .m) (at .split-of .result) (two-parts t here) (same-cut t here) (c .if3 .left) in
+    let f = count-high (a .x) (a .m) (at .split-of .result) (two-parts t here) (same-split t here) (c .if3 .left) in
     (omega arith, (omega arith, omega arith, omega arith, omega arith, omega arith, omega arith))
 
 walk-above-requires-2 : (t : ℕ) → walk-lts.Need-above-requires-2 (calls t) (walk-at t) walk.Post
@@ -253,7 +253,7 @@ walk-returns-4 t c =
     let some = has-node t at in
     let hi = here .if2 .left in
     let more = two-parts t here in
-    let cut = same-cut t here in
+    let same = same-split t here in
     let side = has-side t here in
     let l = c .before .before .before .before .before .before .before .before .if3 .left in
     let top = here .before .node-at .ensures ∙ hash-in (a .q - 1) (now (a .proof)) (omega (arith, some, start .pre .1 .5)) in
@@ -262,7 +262,7 @@ walk-returns-4 t c =
     let b = c .before .before .before .before .before .before .before .walk2 .ensures in
     let o = b .1 .1 .1 .1 .1 in
     let up = c .before .above2 .ensures in (
-      included-high sha256 (a .x) (a .m) k (a .leaf .bytes) (a .p) (now (a .path)) side more cut (up .0 .0) l beside (b .0),
+      included-high sha256 (a .x) (a .m) k (a .leaf .bytes) (a .p) (now (a .path)) side more same (up .0 .0) l beside (b .0),
       (
         old-high sha256 (a .m) (a .n) k (a .first .bytes) (a .q) (now (a .proof)) (a .known) z some lt e hi (up .0 .1) top (b .1 .0),
         (

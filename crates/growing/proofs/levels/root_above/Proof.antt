@@ -9,7 +9,7 @@ use Rattle.hash.specs.Digest.{sha256}
 use Rattle.hash.specs.declared.Digest.{Digest}
 use Rattle.growing.specs.Limits.{mostHashes}
 use Rattle.growing.proofs.Stepping.{past, above, above-even, above-odd, above-end}
-use Rattle.growing.proofs.OfSha256.{node-over}
+use Rattle.growing.proofs.OfSha256.{node-parent}
 use Rattle.growing.proofs.levels.root_above.Statement.{statement}
 use Rattle.growing.proofs.levels.root_above.Tie as tie
 
@@ -31,7 +31,7 @@ loop-again c =
       l .inv .1,
       ⊎-elim
           (λ w. l .inv .2 ∙ above-odd sha256 hashes (l .i) (l .n) (l .right .bytes) (omega arith) (λ z. omega arith)
-          ∙ ap (λ (x : Digest). above sha256 hashes (l .i + 1) (l .n / 2) (x .bytes)) (sym (w .3 ∙ node-over (getD hashes (l .i) past) (l .right) (w .2 .result) (w .2 .ensures))))
+          ∙ ap (λ (x : Digest). above sha256 hashes (l .i + 1) (l .n / 2) (x .bytes)) (sym (w .3 ∙ node-parent (getD hashes (l .i) past) (l .right) (w .2 .result) (w .2 .ensures))))
           (λ w. l .inv .2 ∙ above-even sha256 hashes (l .i) (l .n) (l .right .bytes) (omega arith) (omega arith) ∙ ap (λ (x : Digest). above sha256 hashes (l .i + 1) (l .n / 2) (x .bytes)) (sym (w .1)))
           (c .if1 .came),
     )

@@ -14,17 +14,17 @@ use Rattle.tree.specs.Joined.{firstNodes, nodeAt}
 use Rattle.tree.proofs.Joining.{hash-in}
 use Rattle.growing.specs.declared.Growing.{Growing}
 use Rattle.growing.specs.Limits.{mostHashes}
-use Rattle.growing.specs.Hashes.{digest, nothing, over, carried, withLeaf, withLeaves}
-use Rattle.growing.proofs.Stepping.{past, grown, carried-here, carried-up, carried-end, with-leaf-of}
-use Rattle.growing.proofs.Holding.{carried-length}
+use Rattle.growing.specs.Hashes.{digest, nothing, parent, merged, withLeaf, withLeaves}
+use Rattle.growing.proofs.Stepping.{past, grown, merged-here, merged-up, merged-end, with-leaf-of}
+use Rattle.growing.proofs.Holding.{merged-length}
 use Rattle.growing.proofs.Adding.{with-none, with-next}
-use Rattle.growing.proofs.OfSha256.{node-over}
+use Rattle.growing.proofs.OfSha256.{node-parent}
 use Rattle.growing.proofs.levels.with_leaves.Statement.{statement}
 use Rattle.growing.proofs.levels.with_leaves.Tie as tie
 
 abbrev Inv-loop2 : tie.InvT-loop2
 Inv-loop2 leaves n hashes₀ count i h₀ m₀ level₀ hashes h m level =
-    (level ≤ mostHashes) × (length hashes ≡ mostHashes) × (carried sha256 hashes₀ count h₀ ≡ take level hashes ++ carried sha256 (drop level hashes) m h)
+    (level ≤ mostHashes) × (length hashes ≡ mostHashes) × (merged sha256 hashes₀ count h₀ ≡ take level hashes ++ merged sha256 (drop level hashes) m h)
 
 abbrev μ-loop2 : tie.MeasureT-loop2
 μ-loop2 leaves n hashes₀ count i h₀ m₀ level₀ hashes h m level = mostHashes - level
@@ -49,13 +49,13 @@ loop2-again c =
     let l = c .before .before .before .before .before .loop2 in
     let s = l .hashes in
     let t = set s (l .level) nothing in
-    let up : take (l .level) s ++ carried sha256 (drop (l .level) s) (l .m) (l .h) ≡ take (l .level + 1) t ++ carried sha256 (drop (l .level + 1) t) (l .m / 2) (over sha256 (getD s (l .level) past) (l .h)) =
-    carried-up sha256 s (l .level) (l .m) (l .h) (omega arith) (c .before .before .before .if1 .left) in (
+    let up : take (l .level) s ++ merged sha256 (drop (l .level) s) (l .m) (l .h) ≡ take (l .level + 1) t ++ merged sha256 (drop (l .level + 1) t) (l .m / 2) (parent sha256 (getD s (l .level) past) (l .h)) =
+    merged-up sha256 s (l .level) (l .m) (l .h) (omega arith) (c .before .before .before .if1 .left) in (
       search needs,
       length-set s (l .level) _ ∙ l .inv .1,
       l .inv .2 ∙ up
-          ∙ ap (λ (x : Digest). take (l .level + 1) t ++ carried sha256 (drop (l .level + 1) t) (l .m / 2) x) (sym (node-over (getD s (l .level) past) (l .h) (c .before .node .result) (c .before .node .ensures)))
-          ∙ ap (λ (x : Digest). take (l .level + 1) (set s (l .level) x) ++ carried sha256 (drop (l .level + 1) (set s (l .level) x)) (l .m / 2) (c .before .node .result)) (sym (c .no-hash .ensures)),
+          ∙ ap (λ (x : Digest). take (l .level + 1) t ++ merged sha256 (drop (l .level + 1) t) (l .m / 2) x) (sym (node-parent (getD s (l .level) past) (l .h) (c .before .node .result) (c .before .node .ensures)))
+          ∙ ap (λ (x : Digest). take (l .level + 1) (set s (l .level) x) ++ merged sha256 (drop (l .level + 1) (set s (l .level) x)) (l .m / 2) (c .before .node .result)) (sym (c .no-hash .ensures)),
     )
 
 loop-again : tie.Need-loop-again Inv-loop2 μ-loop2 Inv-loop μ-loop
@@ -67,12 +67,12 @@ loop-again c =
     let s = now (a .leaves) in
     let held : 32 * l .i + 32 ≤ length s = omega arith in
     let even : up .level + 1 ≤ mostHashes → up .m % 2 ≡ 0 = λ h. ⊎-elim (λ t. absurd (omega arith)) (λ t. t .1 .taken) (c .before .loop2-test .came) in
-    let put : c .if2 .hashes ≡ carried sha256 (l .hashes) (l .count) (x .result) =
-    ⊎-elim (λ w. w .1 ∙ sym (up .inv .2 ∙ carried-here sha256 (up .hashes) (up .level) (up .m) (up .h) (omega arith) (even (omega arith))))
-    (λ w. w .1 ∙ sym (up .inv .2 ∙ carried-end sha256 (up .hashes) (up .level) (up .m) (up .h) (omega arith)))
+    let put : c .if2 .hashes ≡ merged sha256 (l .hashes) (l .count) (x .result) =
+    ⊎-elim (λ w. w .1 ∙ sym (up .inv .2 ∙ merged-here sha256 (up .hashes) (up .level) (up .m) (up .h) (omega arith) (even (omega arith))))
+    (λ w. w .1 ∙ sym (up .inv .2 ∙ merged-end sha256 (up .hashes) (up .level) (up .m) (up .h) (omega arith)))
     (c .if2 .came) in (
       search needs,
-      ap length put ∙ carried-length sha256 (l .hashes) (l .count) (x .result) ∙ l .inv .1,
+      ap length put ∙ merged-length sha256 (l .hashes) (l .count) (x .result) ∙ l .inv .1,
       omega arith,
       with-leaf-of sha256 (grown (l .hashes) (l .count)) (c .if2 .hashes) (l .count + 1) (x .result) put refl
           ∙ ap (λ (d : List ℕ). withLeaf sha256 (grown (l .hashes) (l .count)) (digest d)) (x .ensures ∙ hash-in (l .i) s held)
