@@ -4,8 +4,8 @@ use Rattle.tree.specs.Split.{doubled, split, size, shapeIn, shape}
 use Rattle.tree.specs.Tree.{node}
 use Rattle.tree.specs.Count.{inclusionCountOf, inclusionCount, subproofCountOf, subproofCount, consistencyCount}
 use Rattle.tree.specs.Yield.{init, last, inclusionRootOf, inclusionRoot, consistencyRootOf, oldRoot, newRoot}
-use Rattle.octets.specs.Bytes.{same, over}
-use Rattle.tree.specs.Joined.{firstNodes, nodes, joined}
+use Rattle.octets.specs.Bytes.{same, over, joined}
+use Rattle.tree.specs.Joined.{firstNodes, nodes}
 use Rattle.tree.specs.Verdict.{judged, unless, noPlace, noSizes, inclusionVerdict, consistencyVerdict}
 use Rattle.octets.specs.Numbers.{be, unbe}
 use Rattle.carry.specs.Strings.{topmost}

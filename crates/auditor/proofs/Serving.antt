@@ -14,8 +14,8 @@ use Rattle.octets.specs.Limits.{mostItem}
 use Rattle.hash.proofs.Promises.{sha256-length}
 use Rattle.tree.specs.Limits.{largestSize}
 use Rattle.tree.specs.Tree.{leaf, root, path, consistency}
-use Rattle.octets.specs.Bytes.{same}
-use Rattle.tree.specs.Joined.{nodes, joined}
+use Rattle.octets.specs.Bytes.{same, joined}
+use Rattle.tree.specs.Joined.{nodes}
 use Rattle.tree.specs.Verdict.{unless, inclusionVerdict, consistencyVerdict}
 use Rattle.octets.proofs.Sameness.{same-refl, same-of}
 use Rattle.tree.proofs.Joining.{All32, all-take, all-nodes, nodes-joined, joined-append, joined-length}

@@ -8,7 +8,8 @@ use Rattle.hash.specs.Digest.{sha256}
 use Rattle.octets.specs.Limits.{mostItem}
 use Rattle.tree.specs.Limits.{largestSize}
 use Rattle.tree.specs.Tree.{leaf, root, path, consistency}
-use Rattle.tree.specs.Joined.{nodes, joined}
+use Rattle.tree.specs.Joined.{nodes}
+use Rattle.octets.specs.Bytes.{joined}
 use Rattle.growing.specs.Hashes.{fresh, rootNow}
 use Rattle.growing.specs.Calls as growing
 use Rattle.octets.specs.Answer.{Answer}

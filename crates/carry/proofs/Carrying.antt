@@ -12,9 +12,9 @@ use borrow.Author.Tests.{lt-ltb, le-ltb, eq-eqb, ne-eqb, eqb-true}
 use Rattle.tree.specs.Limits.{mostNodes}
 use Rattle.tree.specs.Count.{inclusionCount, subproofCount, consistencyCount}
 use Rattle.tree.specs.Yield.{inclusionRoot, oldRoot, newRoot}
-use Rattle.tree.specs.Joined.{firstNodes, nodes, nodesFrom, joined, hashAt}
+use Rattle.tree.specs.Joined.{firstNodes, nodes, nodesFrom, hashAt}
 use Rattle.tree.specs.Verdict.{unless, inclusionVerdict, consistencyVerdict}
-use Rattle.octets.specs.Bytes.{over}
+use Rattle.octets.specs.Bytes.{over, joined}
 use Rattle.tree.proofs.Counting.{bounds}
 use Rattle.tree.proofs.Accepting.{inclusion-accepted, inclusion-accepts, consistency-accepted, consistency-accepts}
 use Rattle.tree.proofs.Joining.{All32, nodes-first, nodes-length, all-nodes, whole-hash, first-length, joined-append, joined-length, nodes-joined}

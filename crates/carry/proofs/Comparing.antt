@@ -8,9 +8,9 @@ use lib.Dec.{ltb}
 use lib.ListN.{length, take, drop, length-drop, take-append-drop}
 use borrow.Author.Tests.{lt-ltb, le-ltb, eq-eqb, ne-eqb}
 use Rattle.tree.specs.Count.{inclusionCount}
-use Rattle.tree.specs.Joined.{firstNodes, nodes, joined, hashAt}
+use Rattle.tree.specs.Joined.{firstNodes, nodes, hashAt}
 use Rattle.tree.specs.Verdict.{unless, inclusionVerdict}
-use Rattle.octets.specs.Bytes.{over}
+use Rattle.octets.specs.Bytes.{over, joined}
 use Rattle.tree.proofs.Accepting.{inclusion-accepted}
 use Rattle.tree.proofs.Joining.{nodes-first, nodes-length, all-nodes, whole-hash}
 use Rattle.carry.specs.Limits.{pairBytes}

@@ -16,7 +16,8 @@ use Rattle.tree.specs.Yield.{init, last, inclusionRoot, oldRoot, newRoot}
 use Rattle.tree.specs.Equations.{left, right}
 use Rattle.tree.specs.Limits.{largestSize}
 use Rattle.tree.specs.Count.{inclusionCount, consistencyCount}
-use Rattle.tree.specs.Joined.{firstNodes, nodes, nodeAt, joined}
+use Rattle.tree.specs.Joined.{firstNodes, nodes, nodeAt}
+use Rattle.octets.specs.Bytes.{joined}
 use Rattle.tree.specs.Verdict.{inclusionVerdict, consistencyVerdict}
 use Rattle.tree.specs.Build.{Outcome, refused, wrote, into, unfit, inclusionBuilt, consistencyBuilt}
 use Rattle.octets.proofs.Order.{lt-or-ge}

@@ -8,7 +8,7 @@ use Rattle.tree.specs.Limits.{largestSize}
 use Rattle.tree.specs.Split.{doubled, split, size, shapeIn, shape}
 use Rattle.tree.specs.Tree.{rootOf, root, pathOf, path, subproofOf, subproof, consistency}
 use Rattle.tree.specs.Yield.{init, last, consistencyRootOf}
-use Rattle.tree.specs.Joined.{joined}
+use Rattle.octets.specs.Bytes.{joined}
 use Rattle.tree.specs.Verdict.{consistencyVerdict}
 use Rattle.tree.proofs.Joining.{All32}
 use Rattle.carry.specs.Forward.{forwardOf, forward, carry}

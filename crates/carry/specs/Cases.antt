@@ -6,7 +6,7 @@ use mathlib.Core.List.{List, [], _∷_}
 use Prim.Native.Nat.{ℕ, _≤_}
 use lib.ListN.{length, take, getD}
 use Rattle.tree.specs.Tree.{node, root, path, consistency}
-use Rattle.tree.specs.Joined.{joined}
+use Rattle.octets.specs.Bytes.{joined}
 use Rattle.tree.specs.Verdict.{inclusionVerdict, consistencyVerdict}
 use Rattle.carry.specs.Limits.{pairBytes}
 use Rattle.carry.specs.Strings.{alike}

@@ -6,7 +6,7 @@ use mathlib.Core.List.{List, [], _∷_, _++_, map}
 use Prim.Native.Nat.{ℕ, _+_, _-_, _*_, _%_}
 use lib.ListN.{length, getD, replicate}
 use Rattle.octets.specs.Answer.{done}
-use Rattle.tree.specs.Joined.{joined}
+use Rattle.octets.specs.Bytes.{joined}
 use Rattle.carry.specs.Limits.{pairBytes}
 use Rattle.carry.specs.Strings.{string}
 use Rattle.carry.specs.Forward as forward

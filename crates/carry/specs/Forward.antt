@@ -9,9 +9,9 @@ use Rattle.tree.specs.Split.{Shape, one, fork, size, shape}
 use Rattle.tree.specs.Tree.{node}
 use Rattle.tree.specs.Count.{inclusionCount}
 use Rattle.tree.specs.Yield.{init, last, inclusionRootOf, inclusionRoot, consistencyRootOf}
-use Rattle.tree.specs.Joined.{nodes, joined}
+use Rattle.tree.specs.Joined.{nodes}
 use Rattle.tree.specs.Verdict.{unless, inclusionVerdict, consistencyVerdict}
-use Rattle.octets.specs.Bytes.{over}
+use Rattle.octets.specs.Bytes.{over, joined}
 use Rattle.octets.specs.Answer.{Answer, done}
 use Rattle.carry.specs.Limits.{pairBytes}
 use Rattle.carry.specs.declared.forward.Carried.{Carried}

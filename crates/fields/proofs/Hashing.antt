@@ -16,7 +16,8 @@ use Rattle.fields.specs.Checked.{good, bad}
 use Rattle.octets.specs.Numbers.{be}
 use Rattle.fields.specs.Layout.{inside, bytesAt}
 use Rattle.fields.specs.Write.{prefixed, stripped, unwrap, fine}
-use Rattle.fields.specs.Path.{encoded, joined, pathAt, copyPath}
+use Rattle.fields.specs.Path.{encoded, pathAt, copyPath}
+use Rattle.octets.specs.Bytes.{joined}
 use Rattle.fields.specs.Claims.{Each, CopiedIsJoined, JoinedIsCopied, CopyKeeps}
 use Rattle.fields.proofs.Lent.{refused-keeps, past-keeps}
 use Rattle.fields.proofs.Answers.{bad-good, same-good}

@@ -13,9 +13,9 @@ use Rattle.fields.specs.declared.layout.Field.the-variants.{Uint}
 use Rattle.octets.specs.declared.number.Width.the-variants.{One}
 use Rattle.fields.specs.declared.layout.FieldRead.the-variants.{Found, Bad}
 use Rattle.fields.specs.Checked.{Checked, good, bad}
-use Rattle.fields.specs.Layout.{field, next, push, read, onward, found}
+use Rattle.fields.specs.Layout.{field, next, push, read, foundThen, partsFound}
 use Rattle.fields.specs.declared.reading.LayoutRead.{LayoutRead}
-use Rattle.fields.specs.Answers.{noPart, noParts, padded, layoutRead}
+use Rattle.fields.specs.Answers.{noPart, noParts, withZeros, layoutRead}
 
 -- the first n elements of an array, by their places
 abbrev from : ℕ → ℕ → List Part → List Part
@@ -81,7 +81,7 @@ pub record Held (fs : List Field) (s : List ℕ) (from : ℕ) (parts : List Part
   pub size : length parts ≡ 8
   pub rest : drop i parts ≡ drop i noParts
   pub reads : read fs s from ≡ resume (take i parts) (read (drop i fs) s at)
-  pub finds : found fs s from ≡ take i parts ++ found (drop i fs) s at
+  pub finds : partsFound fs s from ≡ take i parts ++ partsFound (drop i fs) s at
 
 pub held-first : (fs : List Field) (s : List ℕ) (from : ℕ) → Held fs s from noParts from 0
 held-first fs s from = record { size = refl; rest = refl; reads = start fs s from; finds = refl }
@@ -90,38 +90,38 @@ module _ (fs : List Field) (s : List ℕ) (from : ℕ) (parts : List Part) (at i
   kept : length (take i parts) ≡ i
   kept = length-take-le i parts (omega (arith, h .size))
 
-  padded-is : parts ≡ padded (take i parts)
+  padded-is : parts ≡ withZeros (take i parts)
   padded-is = sym (take-append-drop i parts) ∙ ap (λ (b : List Part). take i parts ++ b) (h .rest ∙ ap (λ (k : ℕ). drop k noParts) (sym kept))
 
-  refused-is : (x y : ℕ) → found (drop i fs) s at ≡ [] → read fs s from ≡ bad x y → record { number = x; place = y; met = i; parts = parts } ≡ layoutRead (found fs s from) (read fs s from)
+  refused-is : (x y : ℕ) → partsFound (drop i fs) s at ≡ [] → read fs s from ≡ bad x y → record { number = x; place = y; met = i; parts = parts } ≡ layoutRead (partsFound fs s from) (read fs s from)
   refused-is x y e r =
-      let f : found fs s from ≡ take i parts = h .finds ∙ ap (λ (l : List Part). take i parts ++ l) e ∙ append-nil (take i parts) in
+      let f : partsFound fs s from ≡ take i parts = h .finds ∙ ap (λ (l : List Part). take i parts ++ l) e ∙ append-nil (take i parts) in
       rw (f, r) (ap₂ (λ (k : ℕ) (l : List Part). record { number = x; place = y; met = k; parts = l }) (sym kept) padded-is)
 
-  read-is : found (drop i fs) s at ≡ [] → (ps : List Part) → read fs s from ≡ good ps → record { number = 0; place = 0; met = i; parts = parts } ≡ layoutRead (found fs s from) (read fs s from)
+  read-is : partsFound (drop i fs) s at ≡ [] → (ps : List Part) → read fs s from ≡ good ps → record { number = 0; place = 0; met = i; parts = parts } ≡ layoutRead (partsFound fs s from) (read fs s from)
   read-is e ps r =
-      let f : found fs s from ≡ take i parts = h .finds ∙ ap (λ (l : List Part). take i parts ++ l) e ∙ append-nil (take i parts) in
+      let f : partsFound fs s from ≡ take i parts = h .finds ∙ ap (λ (l : List Part). take i parts ++ l) e ∙ append-nil (take i parts) in
       rw (f, r) (ap₂ (λ (k : ℕ) (l : List Part). record { number = 0; place = 0; met = k; parts = l }) (sym kept) padded-is)
 
   module _ (more : i < length fs) (f : Field) (is : f ≡ getD fs i (Uint One)) where
-    finds-this : found (drop i fs) s at ≡ onward (field f (drop at s) at) (λ p. found (drop (i + 1) fs) s (p .start + p .len))
-    unfolding found
+    finds-this : partsFound (drop i fs) s at ≡ foundThen (field f (drop at s) at) (λ p. partsFound (drop (i + 1) fs) s (p .start + p .len))
+    unfolding partsFound
     finds-this =
-        ap (λ (l : List Field). found l s at)
+        ap (λ (l : List Field). partsFound l s at)
         (drop-cons fs i (Uint One) more ∙ ap₂ (λ (g : Field) (k : ℕ). g ∷ drop k fs) (sym is) (sym (add-one i)))
 
-    pub held-stops : (x y : ℕ) → field f (drop at s) at ≡ Bad x y → record { number = x; place = y; met = i; parts = parts } ≡ layoutRead (found fs s from) (read fs s from)
+    pub held-stops : (x y : ℕ) → field f (drop at s) at ≡ Bad x y → record { number = x; place = y; met = i; parts = parts } ≡ layoutRead (partsFound fs s from) (read fs s from)
     held-stops x y e = refused-is x y (rw (finds-this, e)) (h .reads ∙ stops fs s parts at i more f is x y e)
 
     pub held-goes : (p : Part) → i < 8 → field f (drop at s) at ≡ Found p → Held fs s from (set parts i p) (p .start + p .len) (i + 1)
     held-goes p l e =
         let m : i < length parts = omega (arith, h .size) in
-        let z : found (drop i fs) s at ≡ p ∷ found (drop (i + 1) fs) s (p .start + p .len) = rw (finds-this, e) in
+        let z : partsFound (drop i fs) s at ≡ p ∷ partsFound (drop (i + 1) fs) s (p .start + p .len) = rw (finds-this, e) in
         record {
           size = length-set parts i p ∙ h .size;
           rest = rest-goes p m;
           reads = h .reads ∙ goes fs s parts at i more f is p m e;
-          finds = h .finds ∙ ap (λ (l : List Part). take i parts ++ l) z ∙ sym (rw (add-one, take-suc-set parts i p m) (append-assoc (take i parts) (p ∷ []) (found (drop (suc i) fs) s (p .start + p .len))));
+          finds = h .finds ∙ ap (λ (l : List Part). take i parts ++ l) z ∙ sym (rw (add-one, take-suc-set parts i p m) (append-assoc (take i parts) (p ∷ []) (partsFound (drop (suc i) fs) s (p .start + p .len))));
         }
       where
         rest-goes : (p : Part) → i < length parts → drop (i + 1) (set parts i p) ≡ drop (i + 1) noParts
@@ -131,12 +131,12 @@ module _ (fs : List Field) (s : List ℕ) (from : ℕ) (parts : List Part) (at i
             drop-set-lt (i + 1) parts i p l ∙ d parts ∙ ap (drop 1) (h .rest) ∙ sym (d noParts)
 
   module _ (end : i ≡ length fs) where
-    nothing-found : found (drop i fs) s at ≡ []
-    unfolding found
+    nothing-found : partsFound (drop i fs) s at ≡ []
+    unfolding partsFound
     nothing-found = rw (end, drop-length fs)
 
-    pub held-extra : at < length s → record { number = 3; place = at; met = i; parts = parts } ≡ layoutRead (found fs s from) (read fs s from)
+    pub held-extra : at < length s → record { number = 3; place = at; met = i; parts = parts } ≡ layoutRead (partsFound fs s from) (read fs s from)
     held-extra l = refused-is 3 at nothing-found (h .reads ∙ extra fs s parts at i end l)
 
-    pub held-all : length s ≤ at → record { number = 0; place = 0; met = i; parts = parts } ≡ layoutRead (found fs s from) (read fs s from)
+    pub held-all : length s ≤ at → record { number = 0; place = 0; met = i; parts = parts } ≡ layoutRead (partsFound fs s from) (read fs s from)
     held-all l = read-is nothing-found (take i parts) (h .reads ∙ all fs s parts at i end l)

@@ -15,7 +15,7 @@ use Rattle.fields.specs.declared.layout.Inside.the-variants.{Fine}
 use Rattle.fields.specs.declared.layout.FieldRead.{FieldRead}
 use Rattle.fields.specs.declared.layout.FieldRead.the-variants.{Found, Bad}
 use Rattle.fields.specs.Checked.{Checked, good, bad}
-use Rattle.fields.specs.Layout.{inside, field, next, push, read, onward, found, bytesAt}
+use Rattle.fields.specs.Layout.{inside, field, next, push, read, foundThen, partsFound, bytesAt}
 use Rattle.fields.specs.Claims.{Each, Met, FoundBefore, FieldsWithin, RefusedWithin}
 use Rattle.fields.proofs.Answers.{bad-good, good-bad, same-good, same-place, same-number}
 use Rattle.fields.proofs.Founds.{found-vector, found-within, found-after, refused-at}
@@ -79,8 +79,8 @@ module _ (s : List ℕ) where
           more (bad u v) ha e = less p (found-inside f at p h hz) (rw ha e)
 
 -- what is read is what is found, and a refusal meets the field behind those found
-pub read-found : (fs : List Field) (s : List ℕ) (at : ℕ) (ps : List Part) → read fs s at ≡ good ps → found fs s at ≡ ps
-unfolding read found
+pub read-found : (fs : List Field) (s : List ℕ) (at : ℕ) (ps : List Part) → read fs s at ≡ good ps → partsFound fs s at ≡ ps
+unfolding read partsFound
 read-found [] s at ps e = go (ltb at (length s)) e
   where
     go : (b : Bool) → cond b (bad 3 at) (good []) ≡ good ps → [] ≡ ps
@@ -88,16 +88,16 @@ read-found [] s at ps e = go (ltb at (length s)) e
     go false e = same-good [] ps e
 read-found (f ∷ fs) s at ps e = go (field f (drop at s) at) e (λ p. read-found fs s (p .start + p .len))
   where
-    go : (x : FieldRead) → next x (λ p. push p (read fs s (p .start + p .len))) ≡ good ps → ((p : Part) (qs : List Part) → read fs s (p .start + p .len) ≡ good qs → found fs s (p .start + p .len) ≡ qs) → onward x (λ p. found fs s (p .start + p .len)) ≡ ps
+    go : (x : FieldRead) → next x (λ p. push p (read fs s (p .start + p .len))) ≡ good ps → ((p : Part) (qs : List Part) → read fs s (p .start + p .len) ≡ good qs → partsFound fs s (p .start + p .len) ≡ qs) → foundThen x (λ p. partsFound fs s (p .start + p .len)) ≡ ps
     go (Bad x y) e less = bad-good x y ps e
     go (Found p) e less = more (read fs s (p .start + p .len)) refl e
       where
-        more : (a : Checked (List Part)) → read fs s (p .start + p .len) ≡ a → push p a ≡ good ps → p ∷ found fs s (p .start + p .len) ≡ ps
+        more : (a : Checked (List Part)) → read fs s (p .start + p .len) ≡ a → push p a ≡ good ps → p ∷ partsFound fs s (p .start + p .len) ≡ ps
         more (bad x y) ha e = bad-good x y ps e
         more (good qs) ha e = ap (λ (l : List Part). p ∷ l) (less p qs ha) ∙ same-good (p ∷ qs) ps e
 
 met-behind : (fs : List Field) (s : List ℕ) (at x y : ℕ) → read fs s at ≡ bad x y → Met fs s at x y × (at ≤ y)
-unfolding read found
+unfolding read partsFound
 met-behind [] s at x y e = go (ltb at (length s)) e
   where
     go : (b : Bool) → _≡_ {A = Checked (List Part)} (cond b (bad 3 at) (good [])) (bad x y) → Met [] s at x y × (at ≤ y)
@@ -119,12 +119,12 @@ pub found-before : FoundBefore
 found-before fs s at = (read-found fs s at, λ x y e. met-behind fs s at x y e .0)
 
 -- no more parts are found than there are fields
-pub found-few : (fs : List Field) (s : List ℕ) (at : ℕ) → length (found fs s at) ≤ length fs
-unfolding found
+pub found-few : (fs : List Field) (s : List ℕ) (at : ℕ) → length (partsFound fs s at) ≤ length fs
+unfolding partsFound
 found-few [] s at = omega arith
 found-few (f ∷ fs) s at = go (field f (drop at s) at) (λ p. found-few fs s (p .start + p .len))
   where
-    go : (x : FieldRead) → ((p : Part) → length (found fs s (p .start + p .len)) ≤ length fs) → length (onward x (λ p. found fs s (p .start + p .len))) ≤ suc (length fs)
+    go : (x : FieldRead) → ((p : Part) → length (partsFound fs s (p .start + p .len)) ≤ length fs) → length (foundThen x (λ p. partsFound fs s (p .start + p .len))) ≤ suc (length fs)
     go (Bad x y) less = omega arith
     go (Found p) less = omega (arith, less p)
 

@@ -13,10 +13,10 @@ abbrev pub noParts : List Part
 noParts = noPart ∷ noPart ∷ noPart ∷ noPart ∷ noPart ∷ noPart ∷ noPart ∷ noPart ∷ []
 
 -- the parts found, and zeros up to the most that there can be
-abbrev pub padded : List Part → List Part
-padded ps = ps ++ drop (length ps) noParts
+abbrev pub withZeros : List Part → List Part
+withZeros ps = ps ++ drop (length ps) noParts
 
 -- the parts found and what was read, as the struct says it; a refusal's number is never 0
 abbrev pub layoutRead : List Part → Checked (List Part) → LayoutRead
-layoutRead ps (good qs) = record { number = 0; place = 0; met = length ps; parts = padded ps }
-layoutRead ps (bad x at) = record { number = x; place = at; met = length ps; parts = padded ps }
+layoutRead ps (good qs) = record { number = 0; place = 0; met = length ps; parts = withZeros ps }
+layoutRead ps (bad x at) = record { number = x; place = at; met = length ps; parts = withZeros ps }

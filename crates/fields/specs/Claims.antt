@@ -3,16 +3,16 @@ use Prim.Native.Nat.{ℕ, _+_, _-_, _*_, _^_, _≤_, _<_}
 use mathlib.Core.Path.{_≡_}
 use mathlib.Core.List.{List, [], _∷_, _++_}
 use lib.ListN.{length, getD, take, drop}
-use Rattle.octets.specs.Bytes.{Bytes}
+use Rattle.octets.specs.Bytes.{Bytes, joined}
 use Rattle.octets.specs.Numbers.{widthOf}
 use Rattle.fields.specs.declared.layout.Part.{Part}
 use Rattle.fields.specs.declared.layout.Field.{Field}
 use Rattle.fields.specs.declared.layout.Field.the-variants.{Uint, Vector}
 use Rattle.fields.specs.declared.layout.FieldRead.the-variants.{Found}
 use Rattle.fields.specs.Checked.{good, bad}
-use Rattle.fields.specs.Layout.{field, read, found, bytesAt}
+use Rattle.fields.specs.Layout.{field, read, partsFound, bytesAt}
 use Rattle.fields.specs.Write.{Value, uint, bytes, fill, Filled, write, opened, values}
-use Rattle.fields.specs.Path.{encoded, joined, pathAt, copyPath}
+use Rattle.fields.specs.Path.{encoded, pathAt, copyPath}
 
 -- one field that was found, filled with what was found there, is the same bytes
 abbrev pub ReadThenFilled : Type 0
@@ -77,18 +77,18 @@ RefusedWithin = (s : List ℕ) (fs : List Field) (at x y : ℕ) → at ≤ lengt
 -- over any layout: what is read is what is found; where reading is refused, the fields found end at or before the refusal's place, and the field behind
 -- them is the one that was refused, or, with 3, there is none
 pub record Met (fs : List Field) (s : List ℕ) (at x y : ℕ) : Type 0 where
-  pub before : Each (λ p. p .start + p .len ≤ y) (found fs s at)
-  pub some : length (found fs s at) ≤ length fs
-  pub over : length (found fs s at) ≡ length fs → x ≡ 3
+  pub before : Each (λ p. p .start + p .len ≤ y) (partsFound fs s at)
+  pub some : length (partsFound fs s at) ≤ length fs
+  pub over : length (partsFound fs s at) ≡ length fs → x ≡ 3
 
 abbrev pub FoundBefore : Type 0
 FoundBefore =
     (fs : List Field) (s : List ℕ) (at : ℕ)
-    → ((ps : List Part) → read fs s at ≡ good ps → found fs s at ≡ ps)
+    → ((ps : List Part) → read fs s at ≡ good ps → partsFound fs s at ≡ ps)
     × ((x y : ℕ) → read fs s at ≡ bad x y → Met fs s at x y)
 
 -- what is copied of a part is what stands there: hashes of 32 bytes, each with its length, and the same hashes joined
-pub record Joins (s : List ℕ) (p : Part) (w : List ℕ) : Type 0 where
+pub record PathCopied (s : List ℕ) (p : Part) (w : List ℕ) : Type 0 where
   pub within : p .start + p .len ≤ length s
   pub hashes : List (List ℕ)
   pub ours : Each (λ h. length h ≡ 32) hashes
@@ -98,7 +98,7 @@ pub record Joins (s : List ℕ) (p : Part) (w : List ℕ) : Type 0 where
   pub each : (i : ℕ) → i < length hashes → take 32 (drop (32 * i) w) ≡ getD hashes i []
 
 abbrev pub CopiedIsJoined : Type 0
-CopiedIsJoined = (s : List ℕ) (p : Part) (w : List ℕ) → pathAt s p ≡ good w → Joins s p w
+CopiedIsJoined = (s : List ℕ) (p : Part) (w : List ℕ) → pathAt s p ≡ good w → PathCopied s p w
 
 -- and whatever part holds such hashes is copied
 abbrev pub JoinedIsCopied : Type 0

@@ -83,9 +83,9 @@ next (Found p) go = go p
 next (Bad x at) go = bad x at
 
 -- a field that is found, and those after it
-abbrev pub onward : FieldRead → (Part → List Part) → List Part
-onward (Found p) go = p ∷ go p
-onward (Bad x at) go = []
+abbrev pub foundThen : FieldRead → (Part → List Part) → List Part
+foundThen (Found p) go = p ∷ go p
+foundThen (Bad x at) go = []
 
 -- one more part in front
 abbrev pub push : Part → Checked (List Part) → Checked (List Part)
@@ -98,9 +98,9 @@ read [] s at = cond (ltb at (length s)) (bad 3 at) (good [])
 read (f ∷ fs) s at = next (field f (drop at s) at) (λ p. push p (read fs s (p .start + p .len)))
 
 -- the fields that are found before the first that is refused
-unfoldable pub found : List Field → List ℕ → ℕ → List Part
-found [] s at = []
-found (f ∷ fs) s at = onward (field f (drop at s) at) (λ p. found fs s (p .start + p .len))
+unfoldable pub partsFound : List Field → List ℕ → ℕ → List Part
+partsFound [] s at = []
+partsFound (f ∷ fs) s at = foundThen (field f (drop at s) at) (λ p. partsFound fs s (p .start + p .len))
 
 -- the bytes where a part lies
 abbrev pub bytesAt : List ℕ → Part → List ℕ

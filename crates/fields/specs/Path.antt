@@ -17,11 +17,6 @@ unfoldable pub encoded : List (List ℕ) → List ℕ
 encoded [] = []
 encoded (h ∷ hs) = (be 1 (length h) ++ h) ++ encoded hs
 
--- the same hashes joined
-unfoldable pub joined : List (List ℕ) → List ℕ
-joined [] = []
-joined (h ∷ hs) = h ++ joined hs
-
 -- The joined hashes of the path that lies at a part. A part that does not lie in the bytes is a field cut short, where it starts; an element that is
 -- not of ours is refused as the reader refuses it, where it starts. The part's number is not looked at.
 unfoldable pub pathAt : List ℕ → Part → Checked (List ℕ)

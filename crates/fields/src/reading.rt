@@ -8,7 +8,7 @@ ghost use mathlib.Core.List.{List};
 ghost use Prim.Native.Nat.{_≤_};
 ghost use lib.ListN.{length, take};
 ghost use Rattle.fields.specs.declared.layout.Field as declared;
-ghost use Rattle.fields.specs.Layout.{read, found};
+ghost use Rattle.fields.specs.Layout.{read, partsFound};
 ghost use Rattle.fields.specs.Answers.{layoutRead};
 
 // The most fields that a layout has.
@@ -38,7 +38,7 @@ fn counted(count: usize) -> usize
 pub fn read_layout(s: &[u8], at: usize, layout: [Field; MOST_FIELDS], count: usize) -> LayoutRead
     ensures { λ r. ⌜
         (let fields = take count layout in
-        r ≡ layoutRead (found fields (now (s .entry)) at) (read fields (now (s .entry)) at)) ⌝ }
+        r ≡ layoutRead (partsFound fields (now (s .entry)) at) (read fields (now (s .entry)) at)) ⌝ }
 {
     let mut parts = [Part {
         start: 0,

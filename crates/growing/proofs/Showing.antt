@@ -11,8 +11,8 @@ use lib.ListN.{length, take, drop, take-append-drop}
 use lib.Seq.{take-at, drop-at}
 use Rattle.tree.specs.Split.{split}
 use Rattle.tree.specs.Tree.{leaf, node, root}
-use Rattle.octets.specs.Bytes.{same}
-use Rattle.tree.specs.Joined.{nodes, nodeAt, joined}
+use Rattle.octets.specs.Bytes.{same, joined}
+use Rattle.tree.specs.Joined.{nodes, nodeAt}
 use Rattle.tree.specs.Equations.{left, right}
 use Rattle.tree.specs.Verdict.{inclusionVerdict, consistencyVerdict}
 use Rattle.tree.specs.Build.{wrote, inclusionBuilt, consistencyBuilt}

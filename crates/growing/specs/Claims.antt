@@ -11,7 +11,8 @@ use Rattle.octets.specs.Limits.{mostItem}
 use Rattle.tree.specs.Limits.{largestSize, mostLeaves}
 use Rattle.tree.specs.Collision.{Collision}
 use Rattle.tree.specs.Tree.{leaf, root, mth}
-use Rattle.tree.specs.Joined.{nodes, nodeAt, joined}
+use Rattle.tree.specs.Joined.{nodes, nodeAt}
+use Rattle.octets.specs.Bytes.{joined}
 use Rattle.tree.specs.Verdict.{inclusionVerdict, consistencyVerdict}
 use Rattle.tree.specs.Build.{wrote, inclusionBuilt, consistencyBuilt}
 use Rattle.tree.specs.Full.{fullRoots}

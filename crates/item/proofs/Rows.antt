@@ -17,7 +17,7 @@ use Rattle.item.specs.Table.{fieldOf, namesOf, layoutOf}
 use Rattle.item.specs.declared.writer.Numbers.{Numbers}
 use Rattle.fields.specs.Write.{Value, held}
 use Rattle.item.specs.Item.{Vectors, valueOf, filled}
-use Rattle.item.specs.Steps.{numberOf, bytesOf}
+use Rattle.item.specs.Steps.{numberBy, bytesBy}
 use Rattle.fields.proofs.Filling.{nothing}
 
 -- the most that a field of the table takes is little beside the largest place
@@ -58,7 +58,7 @@ pub layout-at : (c : Case) (names : List Name) (i : ℕ) → take (length (names
 layout-at c names i e h = ap fieldOf (name-at c names i e h) ∙ field-at (namesOf c) i h
 
 -- what the writer is given by a name, from its two halves
-held-is : (n : Numbers) (t : Vectors) (x : Name) → valueOf n t x ≡ held (fieldOf x) (numberOf n x) (bytesOf t x)
+held-is : (n : Numbers) (t : Vectors) (x : Name) → valueOf n t x ≡ held (fieldOf x) (numberBy n x) (bytesBy t x)
 held-is n t Timestamp = refl
 held-is n t Size = refl
 held-is n t SizeOne = refl
@@ -85,7 +85,7 @@ filled-at n t (x ∷ ns) zero h = refl
 filled-at n t (x ∷ ns) (suc i) h = filled-at n t ns i (omega arith)
 
 -- the field at a place of the first k names with its value, by what the code has there
-pub one-at : (n : Numbers) (t : Vectors) (names : List Name) (k i : ℕ) → length (take k names) ≡ k → i < k → (f : Field) (v : List ℕ) → f ≡ fieldOf (getD names i Timestamp) → v ≡ bytesOf t (getD names i Timestamp) → getD (filled n t (take k names)) i nothing ≡ record { field = f; value = held f (numberOf n (getD names i Timestamp)) v }
+pub one-at : (n : Numbers) (t : Vectors) (names : List Name) (k i : ℕ) → length (take k names) ≡ k → i < k → (f : Field) (v : List ℕ) → f ≡ fieldOf (getD names i Timestamp) → v ≡ bytesBy t (getD names i Timestamp) → getD (filled n t (take k names)) i nothing ≡ record { field = f; value = held f (numberBy n (getD names i Timestamp)) v }
 one-at n t names k i l h f v ef ev =
     let x = getD names i Timestamp in
     filled-at n t (take k names) i (omega arith)

@@ -7,11 +7,11 @@ use denote.Ref.{RefT}
 use Rattle.octets.specs.Bytes.{Bytes}
 use Rattle.fields.specs.declared.layout.Part.{Part}
 use Rattle.fields.specs.Checked.{good, bad}
-use Rattle.fields.specs.Layout.{found, bytesAt}
+use Rattle.fields.specs.Layout.{partsFound, bytesAt}
 use Rattle.fields.specs.Write.{values}
 use Rattle.fields.specs.Effect.{wrote}
 use Rattle.fields.specs.Path.{pathAt, copyPath}
-use Rattle.fields.specs.Claims.{Each, Joins}
+use Rattle.fields.specs.Claims.{Each, PathCopied}
 use Rattle.fields.specs.Answers.{noPart}
 use Rattle.octets.specs.Numbers.{unbe}
 use Rattle.item.specs.declared.table.Name.the-variants.{Timestamp}
@@ -82,8 +82,8 @@ FieldsWithin = (s : List ℕ) (r : Reading) → readItem s ≡ good r → Each (
 pub data Meeting (s : List ℕ) (x at : ℕ) : Met → Type 0 where
   whole : x ≡ 1 → at ≡ 0 → Meeting s x at Whole
   typeBytes : at ≡ 0 → Meeting s x at TypeBytes
-  named : (c : Case) → find types (unbe (take 2 s)) ≡ good c → length (found (layoutOf c) s 2) < length (namesOf c)
-      → Each (λ p. p .start + p .len ≤ at) (found (layoutOf c) s 2) → Meeting s x at (Named (getD (namesOf c) (length (found (layoutOf c) s 2)) Timestamp))
+  named : (c : Case) → find types (unbe (take 2 s)) ≡ good c → length (partsFound (layoutOf c) s 2) < length (namesOf c)
+      → Each (λ p. p .start + p .len ≤ at) (partsFound (layoutOf c) s 2) → Meeting s x at (Named (getD (namesOf c) (length (partsFound (layoutOf c) s 2)) Timestamp))
   after : x ≡ 3 → Meeting s x at After
 
 abbrev pub NamesItsField : Type 0
@@ -116,7 +116,7 @@ pathPart r = getD (r .fields) 3 noPart
 pub record PathSaid (s : List ℕ) (r : Reading) : Type 0 where
   pub path : List ℕ
   pub copied : (out : List ℕ) → length path ≤ length out → copyPath s (pathPart r) out ≡ wrote path out
-  pub says : Joins s (pathPart r) path
+  pub says : PathCopied s (pathPart r) path
   pub given : (k : ℕ) (n : Numbers) (t : Vectors) → Given s r k n t → t .path ≡ path
 
 abbrev pub PathIsSaid : Type 0

@@ -9,7 +9,7 @@ use Rattle.octets.specs.Limits.{mostItem}
 use Rattle.octets.specs.Numbers.{unbe, be}
 use Rattle.fields.specs.declared.layout.Part.{Part}
 use Rattle.fields.specs.Checked.{Checked, good, bad, then}
-use Rattle.fields.specs.Layout.{read, found}
+use Rattle.fields.specs.Layout.{read, partsFound}
 use Rattle.fields.specs.Write.{Value, uint, bytes, Filled, join, write}
 use Rattle.fields.specs.Effect.{Effect, effect}
 use Rattle.item.specs.declared.table.Case.{Case}
@@ -67,7 +67,7 @@ unfoldable pub metBy : List ℕ → Met
 metBy s =
     cond (ltb mostItem (length s)) Whole
     (cond (ltb (length s) 2) TypeBytes
-    (metAfter (find types (unbe (take 2 s))) (λ c. metIn c (length (found (layoutOf c) s 2)))))
+    (metAfter (find types (unbe (take 2 s))) (λ c. metIn c (length (partsFound (layoutOf c) s 2)))))
 
 -- what the answer says of it; an item that is read met nothing
 abbrev pub Meets : Item → Met → Type 0

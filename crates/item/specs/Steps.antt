@@ -21,25 +21,25 @@ known (As c) = good c
 known Unknown = bad 4 0
 
 -- the two halves of what the writer is given by a name; the half that its field has no use for is not looked at
-abbrev pub numberOf : Numbers → Name → ℕ
-numberOf n x = numberIn (valueOf n (vectors [] [] [] [] [] [] [] []) x)
+abbrev pub numberBy : Numbers → Name → ℕ
+numberBy n x = numberIn (valueOf n (vectors [] [] [] [] [] [] [] []) x)
 
-abbrev pub bytesOf : Vectors → Name → List ℕ
-bytesOf t Timestamp = t .logId
-bytesOf t Size = t .logId
-bytesOf t SizeOne = t .logId
-bytesOf t SizeTwo = t .logId
-bytesOf t Place = t .logId
-bytesOf t Agreement = t .logId
-bytesOf t PageNumber = t .logId
-bytesOf t LogId = t .logId
-bytesOf t IssuerKeyHash = t .issuerKeyHash
-bytesOf t Certificate = t .certificate
-bytesOf t RootHash = t .rootHash
-bytesOf t Extensions = t .extensions
-bytesOf t Signature = t .signature
-bytesOf t Path = t .path
-bytesOf t Body = t .body
+abbrev pub bytesBy : Vectors → Name → List ℕ
+bytesBy t Timestamp = t .logId
+bytesBy t Size = t .logId
+bytesBy t SizeOne = t .logId
+bytesBy t SizeTwo = t .logId
+bytesBy t Place = t .logId
+bytesBy t Agreement = t .logId
+bytesBy t PageNumber = t .logId
+bytesBy t LogId = t .logId
+bytesBy t IssuerKeyHash = t .issuerKeyHash
+bytesBy t Certificate = t .certificate
+bytesBy t RootHash = t .rootHash
+bytesBy t Extensions = t .extensions
+bytesBy t Signature = t .signature
+bytesBy t Path = t .path
+bytesBy t Body = t .body
 
 -- a head's log id lies within its bytes
 abbrev pub LogWithin : List ℕ → Head → Type 0

@@ -16,7 +16,7 @@ ghost use mathlib.Core.Path.{_≡_};
 ghost use mathlib.Core.List.{[], _∷_};
 ghost use lib.ListN.{length, take};
 ghost use Rattle.fields.specs.Checked.{then};
-ghost use Rattle.fields.specs.Layout.{read as readLayout, found};
+ghost use Rattle.fields.specs.Layout.{read as readLayout, partsFound};
 ghost use Rattle.item.specs.Table.{namesOf, layoutOf, metIn};
 ghost use Rattle.item.specs.Item.{item, reading, readItem, Meets, metBy};
 
@@ -146,7 +146,7 @@ fn named(case: Case, kind: u16, parts: [Part; MOST_FIELDS]) -> Item
 fn read_fields(s: &[u8], kind: u16, case: Case) -> Item
     ensures { λ r. ⌜
         (reading r ≡ then (readLayout (layoutOf case) (now (s .entry)) 2) (item case kind))
-        × Meets r (metIn case (length (found (layoutOf case) (now (s .entry)) 2))) ⌝ }
+        × Meets r (metIn case (length (partsFound (layoutOf case) (now (s .entry)) 2))) ⌝ }
 {
     let layout = layout_of(case);
     let n = count_of(case);

@@ -21,7 +21,7 @@ ghost use Rattle.fields.specs.Effect.{writing};
 ghost use Rattle.fields.specs.Inner.{ends, written, Good};
 ghost use Rattle.item.specs.Table.{namesOf};
 ghost use Rattle.item.specs.Item.{vectors, filled, writeItem};
-ghost use Rattle.item.specs.Steps.{numberOf, bytesOf};
+ghost use Rattle.item.specs.Steps.{numberBy, bytesBy};
 
 // Every number that some item has.
 pub struct Numbers {
@@ -36,7 +36,7 @@ pub struct Numbers {
 
 // What is handed back for a vector's name is not looked at.
 fn number_of(name: Name, numbers: Numbers) -> u64
-    ensures { λ r. ⌜ r ≡ numberOf numbers name ⌝ }
+    ensures { λ r. ⌜ r ≡ numberBy numbers name ⌝ }
 {
     match name {
         Name::Timestamp => numbers.timestamp,
@@ -72,7 +72,7 @@ fn bytes_of<'a>(
     ensures { λ r. ⌜
         (let t = vectors (now (log .entry)) (now (issuer .entry)) (now (certificate .entry)) (now (root .entry))
         (now (extensions .entry)) (now (signature .entry)) (now (path .entry)) (now (body .entry)) in
-        now r ≡ bytesOf t name) ⌝ }
+        now r ≡ bytesBy t name) ⌝ }
 {
     match name {
         Name::Timestamp => log,

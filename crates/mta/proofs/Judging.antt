@@ -5,31 +5,26 @@ use Prim.Native.Nat.{ℕ, _*_, _/_}
 use native.Mathlib.Omega.{arith}
 use lib.ListN.{length}
 use Rattle.tree.specs.Claims.{Inclusion, Consistency}
-use Rattle.tree.specs.Joined.{nodes, joined}
+use Rattle.tree.specs.Joined.{nodes}
+use Rattle.octets.specs.Bytes.{joined}
 use Rattle.tree.proofs.Joining.{All32, nodes-joined}
 use Rattle.tree.proofs.Accepting.{accepts}
 use Rattle.fields.specs.Claims.{Each}
-use Rattle.fields.specs.Path.{joined as together}
 use Rattle.item.proofs.Trips.{path-is-said}
 use Rattle.mta.specs.Judged.{Shows, Joins, ItemsAreJudged}
 
 abbrev Ours : List (List ℕ) → Type 0
 Ours hs = Each (λ h. length h ≡ 32) hs
 
--- one way of joining, and one of having 32 bytes
-one-join : (hs : List (List ℕ)) → together hs ≡ joined hs
-unfolding together joined
-one-join [] = refl
-one-join (h ∷ hs) = ap (λ (x : List ℕ). h ++ x) (one-join hs)
-
+-- one way of having 32 bytes
 all-32 : (hs : List (List ℕ)) → Ours hs → All32 hs
 unfolding All32
 all-32 [] o = tt
 all-32 (h ∷ hs) o = (o .0, all-32 hs (o .1))
 
 -- a path that joins hashes of 32 bytes has these nodes
-the-nodes : (path : List ℕ) (hs : List (List ℕ)) → Ours hs → path ≡ together hs → nodes path ≡ hs
-the-nodes path hs o e = ap nodes (e ∙ one-join hs) ∙ nodes-joined hs (all-32 hs o)
+the-nodes : (path : List ℕ) (hs : List (List ℕ)) → Ours hs → path ≡ joined hs → nodes path ≡ hs
+the-nodes path hs o e = ap nodes e ∙ nodes-joined hs (all-32 hs o)
 
 module _ (H : List ℕ → List ℕ) (path : List ℕ) (hashes : List (List ℕ)) (same : nodes path ≡ hashes) (long : length path ≡ 32 * length hashes) where
   shown : (leaf : List ℕ) (place size : ℕ) (claimed : List ℕ) → Inclusion H leaf place size claimed path → Shows H leaf place size claimed hashes

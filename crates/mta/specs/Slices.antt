@@ -42,5 +42,5 @@ wordsNumber l m w = cond (eqb (stepNumber m w) 0) (cond (eqb (length l) 8) 0 9) 
 unfoldable pub wordsAfter : List ℕ → List ℕ → List ℕ → List ℕ
 wordsAfter l m w = cond (eqb (wordsNumber l m w) 0) (wordsOf (compress (stateOf l) (wordFrom m 0))) l
 
-unfoldable pub scheduleAfter : List ℕ → List ℕ → List ℕ → List ℕ
-scheduleAfter l m w = cond (eqb (wordsNumber l m w) 0) (schedule (wordFrom m 0) 64) w
+unfoldable pub wordsSchedule : List ℕ → List ℕ → List ℕ → List ℕ
+wordsSchedule l m w = cond (eqb (wordsNumber l m w) 0) (schedule (wordFrom m 0) 64) w

@@ -14,7 +14,7 @@ ghost use Rattle.carry.specs.Forward.{carry, pathCarried, pairCarried, carryRep
 ghost use Rattle.carry.specs.Compare.{compare, compareReport, pairCompared};
 ghost use Rattle.mta.specs.Entries.{writtenAfter, collidedAfter, differedAfter, numberOf, placeOf, lengthAfter, sizesOf, consistencyWritten};
 ghost use Rattle.mta.specs.Judged.{ItemsAreJudged};
-ghost use Rattle.mta.specs.Slices.{nodeNumber, nodeBytes, wordsOf, wordsNumber, wordsAfter, scheduleAfter};
+ghost use Rattle.mta.specs.Slices.{nodeNumber, nodeBytes, wordsOf, wordsNumber, wordsAfter, wordsSchedule};
 use carry::compare::Compared;
 use carry::forward::Carried;
 use fields::writing::Written;
@@ -346,7 +346,7 @@ fn put_words(s: State, l: &mut [u32])
 pub extern "C" fn mta_step(state: &mut [u32], block: &[u8], w: &mut [u32]) -> u32
     ensures { λ r. ⌜ r ≡ wordsNumber (now (state .entry)) (now (block .entry)) (now (w .entry)) ⌝ }
     ensures { λ _. ⌜ now (state .exit) ≡ wordsAfter (now (state .entry)) (now (block .entry)) (now (w .entry)) ⌝ }
-    ensures { λ _. ⌜ now (w .exit) ≡ scheduleAfter (now (state .entry)) (now (block .entry)) (now (w .entry)) ⌝ }
+    ensures { λ _. ⌜ now (w .exit) ≡ wordsSchedule (now (state .entry)) (now (block .entry)) (now (w .entry)) ⌝ }
 {
     if block.len() != 64 {
         return 5;

@@ -17,6 +17,11 @@ same [] (y ∷ t) = false
 same (x ∷ s) [] = false
 same (x ∷ s) (y ∷ t) = eqb x y && same s t
 
+-- byte strings joined, one after the other
+unfoldable pub joined : List (List ℕ) → List ℕ
+joined [] = []
+joined (s ∷ l) = s ++ joined l
+
 -- a buffer whose first bytes are written over
 unfoldable pub over : List ℕ → List ℕ → List ℕ
 over w out = w ++ drop (length w) out

@@ -14,9 +14,9 @@ use Rattle.tree.specs.Count.{inclusionCount, consistencyCount}
 use Rattle.tree.specs.Tree.{root, path, subproof, consistency}
 use Rattle.tree.specs.Yield.{inclusionRoot, oldRoot, newRoot}
 use Rattle.octets.specs.Answer.{Answer, done}
-use Rattle.tree.specs.Joined.{firstNodes, nodes, nodeAt, nodesFrom, joined}
+use Rattle.tree.specs.Joined.{firstNodes, nodes, nodeAt, nodesFrom}
 use Rattle.tree.specs.Verdict.{inclusionVerdict, consistencyVerdict}
-use Rattle.octets.specs.Bytes.{over}
+use Rattle.octets.specs.Bytes.{over, joined}
 use Rattle.tree.specs.Build.{Outcome, refused, wrote, buildReport, output, into, unfit, rootBuilt, inclusionBuilt, consistencyBuilt, rootNumber, rootBytes}
 use Rattle.tree.specs.Claims.{Complete}
 use Rattle.tree.proofs.Counting.{path-length, subproof-length}

@@ -8,9 +8,9 @@ use native.Mathlib.Numerals.{add-one}
 use lib.ListN.{length, take, drop, getD, length-append, length-take, length-drop}
 use lib.Seq.{length-take-le, take-at, drop-at, drop-drop, take-all}
 use borrow.Author.Tests.{le-leb, lt-leb}
-use Rattle.octets.specs.Bytes.{copied}
+use Rattle.octets.specs.Bytes.{copied, joined}
 use Rattle.octets.proofs.Putting.{copied-put, put-whole}
-use Rattle.tree.specs.Joined.{firstNodes, nodes, nodeAt, nodesFrom, noHash, hashAt, joined}
+use Rattle.tree.specs.Joined.{firstNodes, nodes, nodeAt, nodesFrom, noHash, hashAt}
 use Rattle.tree.specs.Yield.{init, last}
 use Rattle.tree.proofs.Rfc.{init-snoc, last-snoc}
 

@@ -8,8 +8,8 @@ use lib.ListN.{length, take, drop, length-append}
 use lib.Seq.{take-at, drop-at, drop-drop, take-all, paste}
 use Rattle.tree.specs.Split.{split}
 use Rattle.tree.specs.Tree.{node, root, path, subproof}
-use Rattle.tree.specs.Joined.{nodeAt, nodesFrom, joined}
-use Rattle.octets.specs.Bytes.{over}
+use Rattle.tree.specs.Joined.{nodeAt, nodesFrom}
+use Rattle.octets.specs.Bytes.{over, joined}
 use Rattle.tree.specs.Equations.{left, right}
 use Rattle.tree.proofs.Splitting.{split-ends}
 use Rattle.tree.proofs.Rfc.{root-one, root-split, path-one, path-low, path-high, sub-all, sub-low, sub-high}

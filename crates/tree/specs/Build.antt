@@ -5,12 +5,12 @@ use mathlib.Core.List.{List}
 use Prim.Native.Nat.{ℕ, _/_, _%_}
 use lib.Dec.{leb, ltb, eqb}
 use lib.ListN.{length, replicate}
-use Rattle.octets.specs.Bytes.{over}
+use Rattle.octets.specs.Bytes.{over, joined}
 use Rattle.octets.specs.Answer.{Answer, done}
 use Rattle.tree.specs.declared.build.Built.{Built}
 use Rattle.tree.specs.declared.build.Built.the-variants.{Wrote, Refused}
 use Rattle.tree.specs.Limits.{mostLeaves}
-use Rattle.tree.specs.Joined.{nodes, joined}
+use Rattle.tree.specs.Joined.{nodes}
 use Rattle.tree.specs.Tree.{root, path, consistency}
 
 -- a builder refuses with a number of document 01, or writes bytes at the start of its output

@@ -27,8 +27,3 @@ noHash = replicate 32 0
 
 unfoldable pub hashAt : ℕ → List ℕ → List ℕ
 hashAt i s = cond (leb (32 * i + 32) (length s)) (nodeAt i s) noHash
-
--- the bytes of hashes, joined
-unfoldable pub joined : List (List ℕ) → List ℕ
-joined [] = []
-joined (h ∷ l) = h ++ joined l

@@ -8,8 +8,8 @@ ghost use Prim.Native.Nat.{_+_, _*_, _≤_, _<_};
 ghost use lib.ListN.{length};
 ghost use lib.Seq.{paste};
 ghost use Rattle.hash.specs.Digest.{sha256};
-ghost use Rattle.octets.specs.Bytes.{over};
-ghost use Rattle.tree.specs.Joined.{nodesFrom, joined};
+ghost use Rattle.octets.specs.Bytes.{over, joined};
+ghost use Rattle.tree.specs.Joined.{nodesFrom};
 ghost use Rattle.tree.specs.Tree.{root, path, subproof};
 
 // The root of the n leaf hashes from an index on, MTH of section 2.1.1.

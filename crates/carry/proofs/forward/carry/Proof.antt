@@ -11,7 +11,8 @@ use borrow.Author.Tests.{not-true, not-false}
 use Rattle.hash.specs.Digest.{sha256}
 use Rattle.hash.proofs.Promises.{sha256-length}
 use Rattle.tree.specs.Count.{inclusionCount, consistencyCount}
-use Rattle.tree.specs.Joined.{joined, nodes}
+use Rattle.tree.specs.Joined.{nodes}
+use Rattle.octets.specs.Bytes.{joined}
 use Rattle.tree.specs.Verdict.{inclusionVerdict, consistencyVerdict}
 use Rattle.carry.specs.declared.walk.Walked.{Walked}
 use Rattle.carry.specs.Forward.{conflict, forward}

@@ -10,7 +10,7 @@ use Rattle.fields.specs.declared.layout.Part.{Part}
 use Rattle.fields.specs.declared.layout.Field.{Field}
 use Rattle.fields.specs.declared.layout.Field.the-variants.{Uint}
 use Rattle.fields.specs.declared.layout.FieldRead.the-variants.{Found}
-use Rattle.fields.specs.Layout.{field, read, found}
+use Rattle.fields.specs.Layout.{field, read, partsFound}
 use Rattle.fields.specs.Answers.{layoutRead}
 use Rattle.fields.proofs.Founds.{found-within}
 use Rattle.fields.proofs.Resuming.{Held, held-first, held-stops, held-goes, held-extra, held-all}
@@ -48,10 +48,10 @@ is : (f : tie.After-read-field Inv-loop μ-loop) → getD (entry (top f) .args .
 is f = let l = top f in sym (getD-take (l .before .counted .result) (entry l .args .t3) (l .loop .i) (Uint One) (omega arith))
 
 -- what is said of the whole layout is said of its first fields
-whole : (l : tie.At-loop Inv-loop μ-loop) → (let a = entry l .args in layoutRead (found (layout l) (a .s .now) (a .at)) (read (layout l) (a .s .now) (a .at)) ≡ layoutRead (found (take (a .count) (a .t3)) (a .s .now) (a .at)) (read (take (a .count) (a .t3)) (a .s .now) (a .at)))
+whole : (l : tie.At-loop Inv-loop μ-loop) → (let a = entry l .args in layoutRead (partsFound (layout l) (a .s .now) (a .at)) (read (layout l) (a .s .now) (a .at)) ≡ layoutRead (partsFound (take (a .count) (a .t3)) (a .s .now) (a .at)) (read (take (a .count) (a .t3)) (a .s .now) (a .at)))
 whole l =
     let a = entry l .args in
-    ap (λ (fs : List Field). layoutRead (found fs (a .s .now) (a .at)) (read fs (a .s .now) (a .at))) (sym (l .before .counted .ensures .1 (a .t3) (l .loop .inv .2)))
+    ap (λ (fs : List Field). layoutRead (partsFound fs (a .s .now) (a .at)) (read fs (a .s .now) (a .at))) (sym (l .before .counted .ensures .1 (a .t3) (l .loop .inv .2)))
 
 returns : tie.Need-returns Inv-loop μ-loop
 returns c =

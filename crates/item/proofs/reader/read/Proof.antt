@@ -8,7 +8,7 @@ use borrow.Author.Needs.{needs}
 use Rattle.octets.specs.Limits.{mostItem}
 use Rattle.octets.specs.Numbers.{unbe}
 use Rattle.fields.specs.Checked.{good, bad, then}
-use Rattle.fields.specs.Layout.{read, found}
+use Rattle.fields.specs.Layout.{read, partsFound}
 use Rattle.item.specs.declared.table.Case.{Case}
 use Rattle.item.specs.declared.table.Met.{Met}
 use Rattle.item.specs.declared.table.Met.the-variants.{Whole, TypeBytes}
@@ -34,7 +34,7 @@ module _ (s : List ℕ) where
       unfolding readItem metBy
       unknown e = rw (le-ltb _ _ fit, le-ltb _ _ typed, ← is, e) (refl, refl)
 
-      known : (c : Case) → find types k ≡ good c → (then (read (layoutOf c) s 2) (item c k) ≡ readItem s) × (metIn c (length (found (layoutOf c) s 2)) ≡ metBy s)
+      known : (c : Case) → find types k ≡ good c → (then (read (layoutOf c) s 2) (item c k) ≡ readItem s) × (metIn c (length (partsFound (layoutOf c) s 2)) ≡ metBy s)
       unfolding readItem metBy
       known c e = rw (le-ltb _ _ fit, le-ltb _ _ typed, ← is, e) (refl, refl)
 

@@ -6,7 +6,7 @@ use lib.ListN.{length, take}
 use borrow.Author.Needs.{needs}
 use Rattle.fields.specs.declared.layout.Field.{Field}
 use Rattle.fields.specs.declared.reading.LayoutRead.{LayoutRead}
-use Rattle.fields.specs.Layout.{read, found}
+use Rattle.fields.specs.Layout.{read, partsFound}
 use Rattle.fields.specs.Answers.{layoutRead}
 use Rattle.item.specs.Table.{namesOf, layoutOf, metIn}
 use Rattle.item.specs.Item.{Meets}
@@ -18,11 +18,11 @@ use Rattle.item.proofs.reader.read_fields.Tie as tie
 abbrev entry : tie.After-read-layout → tie.Start
 entry c = c .before .before .before .before
 
-said : (c : tie.After-read-layout) → (let a = entry c .args in c .read-layout .result ≡ layoutRead (found (layoutOf (a .case)) (a .s .now) 2) (read (layoutOf (a .case)) (a .s .now) 2))
+said : (c : tie.After-read-layout) → (let a = entry c .args in c .read-layout .result ≡ layoutRead (partsFound (layoutOf (a .case)) (a .s .now) 2) (read (layoutOf (a .case)) (a .s .now) 2))
 said c =
     let a = entry c .args in
     c .read-layout .ensures
-    ∙ ap (λ (fs : List Field). layoutRead (found fs (a .s .now) 2) (read fs (a .s .now) 2))
+    ∙ ap (λ (fs : List Field). layoutRead (partsFound fs (a .s .now) 2) (read fs (a .s .now) 2))
     (ap (λ (k : ℕ). take k (c .before .before .layout-of .result)) (c .before .count-of .ensures .0) ∙ c .before .before .layout-of .ensures)
 
 returns : tie.Need-returns

@@ -10,7 +10,7 @@ use Rattle.item.specs.declared.writer.Numbers.{Numbers}
 use Rattle.fields.specs.Write.{fill, write, Filled, held}
 use Rattle.item.specs.Table.{namesOf}
 use Rattle.item.specs.Item.{Vectors, vectors, filled}
-use Rattle.item.specs.Steps.{numberOf}
+use Rattle.item.specs.Steps.{numberBy}
 use Rattle.fields.specs.Inner.{ends}
 use Rattle.fields.specs.Effect.{takes}
 use Rattle.fields.proofs.Fills.{most}
@@ -65,7 +65,7 @@ abbrev top : tie.After-check-field Inv-loop μ-loop → tie.At-loop Inv-loop μ-
 top k = k .before .before .before .before .before
 
 abbrev number : tie.After-check-field Inv-loop μ-loop → Numbers → ℕ
-number k x = numberOf x (getD (top k .before .before .names-of .result) (top k .loop .i) Timestamp)
+number k x = numberBy x (getD (top k .before .before .names-of .result) (top k .loop .i) Timestamp)
 
 abbrev one : tie.After-check-field Inv-loop μ-loop → Numbers → Filled
 one k x = record { field = k .before .before .field-of .result; value = held (k .before .before .field-of .result) (number k x) (k .before .bytes-of .result .now) }

@@ -10,7 +10,8 @@ use Rattle.hash.proofs.Promises.{sha256-length}
 use mathlib.Core.Bool.{true}
 use Rattle.tree.specs.Tree.{subproof, consistency}
 use Rattle.tree.specs.Count.{consistencyCount}
-use Rattle.tree.specs.Joined.{nodes, joined}
+use Rattle.tree.specs.Joined.{nodes}
+use Rattle.octets.specs.Bytes.{joined}
 use Rattle.tree.proofs.Building.{proof-10, proof-zero, proof-6, proof-in, proof-bytes, short, long, reports-refused, reports-from, from-start}
 use Rattle.tree.proofs.build.consistency_path.Statement.{statement}
 use Rattle.tree.proofs.build.consistency_path.Tie as tie

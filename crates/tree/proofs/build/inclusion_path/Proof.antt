@@ -8,7 +8,8 @@ use denote.Ref.{now}
 use Rattle.hash.specs.Digest.{sha256}
 use Rattle.hash.proofs.Promises.{sha256-length}
 use Rattle.tree.specs.Tree.{path}
-use Rattle.tree.specs.Joined.{nodes, joined}
+use Rattle.tree.specs.Joined.{nodes}
+use Rattle.octets.specs.Bytes.{joined}
 use Rattle.tree.proofs.Building.{path-10, path-6, path-in, path-bytes, short, long, reports-refused, reports-from, from-start}
 use Rattle.tree.proofs.build.inclusion_path.Statement.{statement}
 use Rattle.tree.proofs.build.inclusion_path.Tie as tie
