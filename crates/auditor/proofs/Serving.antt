@@ -18,7 +18,8 @@ use Rattle.octets.specs.Bytes.{same, joined}
 use Rattle.tree.specs.Joined.{nodes}
 use Rattle.tree.specs.Verdict.{unless, inclusionVerdict, consistencyVerdict}
 use Rattle.octets.proofs.Sameness.{same-refl, same-of}
-use Rattle.tree.proofs.Joining.{All32, all-take, all-nodes, nodes-joined, joined-append, joined-length}
+use Rattle.octets.proofs.Joining.{joined-append}
+use Rattle.tree.proofs.Joining.{All32, all-take, all-nodes, nodes-joined, joined-length}
 use Rattle.tree.proofs.Counting.{bounds}
 use Rattle.tree.proofs.Completing.{root-32}
 use Rattle.tree.proofs.Accepting.{inclusion-accepted, consistency-accepted}

@@ -17,7 +17,8 @@ use Rattle.tree.specs.Verdict.{unless, inclusionVerdict, consistencyVerdict}
 use Rattle.octets.specs.Bytes.{over, joined}
 use Rattle.tree.proofs.Counting.{bounds}
 use Rattle.tree.proofs.Accepting.{inclusion-accepted, inclusion-accepts, consistency-accepted, consistency-accepts}
-use Rattle.tree.proofs.Joining.{All32, nodes-first, nodes-length, all-nodes, whole-hash, first-length, joined-append, joined-length, nodes-joined}
+use Rattle.octets.proofs.Joining.{joined-append}
+use Rattle.tree.proofs.Joining.{All32, nodes-first, nodes-length, all-nodes, whole-hash, first-length, joined-length, nodes-joined}
 use Rattle.carry.specs.Limits.{pairBytes}
 use Rattle.carry.proofs.Refusing.{opened, passed}
 use Rattle.octets.specs.Answer.{Answer, done}

@@ -14,3 +14,4 @@ pub mod Filling
 pub mod Putting
 pub mod Stripping
 pub mod Hashing
+pub mod Every

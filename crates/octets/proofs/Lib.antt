@@ -1,4 +1,5 @@
 pub mod Order
 pub mod Sameness
+pub mod Joining
 pub mod Putting
 pub mod Numbers

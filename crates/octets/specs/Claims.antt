@@ -1,15 +1,19 @@
--- What is claimed of byte strings and numbers: proved in proofs/Sameness, Putting and Numbers. Assumes nothing: these are statements.
+-- What is claimed of byte strings and numbers: proved in proofs/Sameness, Joining, Putting and Numbers. Assumes nothing: these are statements.
 use mathlib.Core.Path.{_≡_}
 use mathlib.Core.Logic.{_↔_}
 use mathlib.Core.Bool.{true}
-use mathlib.Core.List.{List}
+use mathlib.Core.List.{List, [], _∷_, _++_}
 use Prim.Native.Nat.{ℕ, _+_, _^_, _≤_, _<_}
 use lib.ListN.{length, take, drop}
-use Rattle.octets.specs.Bytes.{Bytes, same, putWithin}
+use Rattle.octets.specs.Bytes.{Bytes, same, joined, putWithin}
 use Rattle.octets.specs.Numbers.{be, unbe}
 
 abbrev pub SameIsEqual : Type 0
 SameIsEqual = (s t : List ℕ) → (same s t ≡ true) ↔ (s ≡ t)
+
+-- one string joined is itself, and strings joined in two parts are joined
+abbrev pub JoinedIs : Type 0
+JoinedIs = ((s : List ℕ) → joined (s ∷ []) ≡ s) × ((a b : List (List ℕ)) → joined (a ++ b) ≡ joined a ++ joined b)
 
 -- what is put stands at its place, the bytes before and after it stay; what does not fit changes nothing
 pub record Put (out : List ℕ) (at : ℕ) (b : List ℕ) : Type 0 where

@@ -7,7 +7,7 @@ pub mod limits;
 mod number;
 mod writing;
 
-ghost use Rattle.octets.specs.Claims.{SameIsEqual, PutKeeps, NumberReadsBack, BytesWriteBack, NumbersAreBytes};
+ghost use Rattle.octets.specs.Claims.{SameIsEqual, JoinedIs, PutKeeps, NumberReadsBack, BytesWriteBack, NumbersAreBytes};
 pub use equality::same;
 pub use number::Width;
 pub use number::be8;
@@ -20,6 +20,7 @@ pub use writing::put;
 // What is proved of them beside their own promises. It does nothing.
 pub fn claims()
     ensures same_is_equal { λ _. ⌜ SameIsEqual ⌝ }
+    ensures joined_is { λ _. ⌜ JoinedIs ⌝ }
     ensures put_keeps { λ _. ⌜ PutKeeps ⌝ }
     ensures number_reads_back { λ _. ⌜ NumberReadsBack ⌝ }
     ensures bytes_write_back { λ _. ⌜ BytesWriteBack ⌝ }

@@ -9,6 +9,7 @@ use lib.ListN.{length, take, drop, getD, length-append, length-take, length-drop
 use lib.Seq.{length-take-le, take-at, drop-at, drop-drop, take-all}
 use borrow.Author.Tests.{le-leb, lt-leb}
 use Rattle.octets.specs.Bytes.{copied, joined}
+use Rattle.octets.proofs.Joining.{joined-append}
 use Rattle.octets.proofs.Putting.{copied-put, put-whole}
 use Rattle.tree.specs.Joined.{firstNodes, nodes, nodeAt, nodesFrom, noHash, hashAt}
 use Rattle.tree.specs.Yield.{init, last}
@@ -140,11 +141,6 @@ unfolding nodes
 all-nodes s = all-first (length s / 32) s (omega arith)
 
 -- joining, and taking apart again
-pub joined-append : (a b : List (List ℕ)) → joined (a ++ b) ≡ joined a ++ joined b
-unfolding joined
-joined-append [] b = refl
-joined-append (h ∷ a) b = ap (λ (x : List ℕ). h ++ x) (joined-append a b) ∙ sym (append-assoc h (joined a) (joined b))
-
 pub joined-snoc : (a : List (List ℕ)) (h : List ℕ) → joined (a ++ (h ∷ [])) ≡ joined a ++ h
 unfolding joined
 joined-snoc a h = joined-append a (h ∷ []) ∙ ap (λ (x : List ℕ). joined a ++ x) (append-nil h)
