@@ -184,8 +184,8 @@ fn put_vector(out: &mut [u8], at: usize, v: &[u8], width: Width, inner: Inner) -
     w + m
 }
 
-// Puts a field, filled with a number or with some bytes, over a lent buffer from a place on, and answers how many bytes it is. Where these do not fit, nothing is
-// written. A value that `check_field` refuses is laid out too: it is the caller who asks first.
+// Puts a field, filled with a number or with some bytes, over a lent buffer from a place on, and answers how many bytes it is. Where these do not fit,
+// nothing is written. A value that `check_field` refuses is laid out too: it is the caller who asks first.
 pub fn put_field(out: &mut [u8], at: usize, f: Field, n: u64, v: &[u8]) -> usize
     ensures { λ r. ⌜ r ≡ length (laid f (held f n (now (v .entry)))) ⌝ }
     ensures { λ r. ⌜ now (out .exit) ≡ putWithin (now (out .entry)) at (laid f (held f n (now (v .entry)))) ⌝ }

@@ -68,8 +68,8 @@ pub fn root_into(g: Growing, out: &mut [u8]) -> Built
     Built::Wrote(32)
 }
 
-// What is proved of every list of calls from a new tree, each given the tree that the one before returned: of every hash, or of every hash of 32 bytes. It does
-// nothing.
+// What is proved of every list of calls from a new tree, each given the tree that the one before returned: of every hash, or of every hash of 32 bytes.
+// It does nothing.
 pub fn claims()
     ensures follows_all { λ _. ⌜ OfEvery FollowsAll ⌝ }
     ensures however_cut { λ _. ⌜ OfEvery HoweverCut ⌝ }

@@ -83,7 +83,8 @@ pub data Meeting (s : List ℕ) (x at : ℕ) : Met → Type 0 where
   whole : x ≡ 1 → at ≡ 0 → Meeting s x at Whole
   typeBytes : at ≡ 0 → Meeting s x at TypeBytes
   named : (c : Case) → find types (unbe (take 2 s)) ≡ good c → length (partsFound (layoutOf c) s 2) < length (namesOf c)
-      → Each (λ p. p .start + p .len ≤ at) (partsFound (layoutOf c) s 2) → Meeting s x at (Named (getD (namesOf c) (length (partsFound (layoutOf c) s 2)) Timestamp))
+      → Each (λ p. p .start + p .len ≤ at) (partsFound (layoutOf c) s 2)
+      → Meeting s x at (Named (getD (namesOf c) (length (partsFound (layoutOf c) s 2)) Timestamp))
   after : x ≡ 3 → Meeting s x at After
 
 abbrev pub NamesItsField : Type 0
@@ -129,7 +130,8 @@ Taken P s (entry kind timestamp issuerKeyHash certificate extensions) k n t =
     (k ≡ kind) × (n .timestamp ≡ timestamp .value) × (t .issuerKeyHash ≡ bytesAt s issuerKeyHash) × (t .certificate ≡ bytesAt s certificate)
     × (t .extensions ≡ bytesAt s extensions)
 Taken P s (receipt kind logId timestamp extensions signature) k n t =
-    (k ≡ kind) × (t .logId ≡ bytesAt s logId) × (n .timestamp ≡ timestamp .value) × (t .extensions ≡ bytesAt s extensions) × (t .signature ≡ bytesAt s signature)
+    (k ≡ kind) × (t .logId ≡ bytesAt s logId) × (n .timestamp ≡ timestamp .value) × (t .extensions ≡ bytesAt s extensions)
+    × (t .signature ≡ bytesAt s signature)
 Taken P s (signedHead kind logId timestamp size rootHash extensions signature) k n t =
     (k ≡ kind) × (t .logId ≡ bytesAt s logId) × (n .timestamp ≡ timestamp .value) × (n .size ≡ size .value) × (t .rootHash ≡ bytesAt s rootHash)
     × (t .extensions ≡ bytesAt s extensions) × (t .signature ≡ bytesAt s signature)

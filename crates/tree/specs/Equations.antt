@@ -47,7 +47,9 @@ module _ (H : List ℕ → List ℕ) where
     pub known : m ≡ length l → subproof H m l true ≡ []
     pub unknown : m ≡ length l → subproof H m l false ≡ root H l ∷ []
     pub low : (b : Bool) → m < length l → m ≤ split (length l) → subproof H m l b ≡ subproof H m (left l) b ++ (root H (right l) ∷ [])
-    pub high : (b : Bool) → m < length l → split (length l) < m → subproof H m l b ≡ subproof H (m - split (length l)) (right l) false ++ (root H (left l) ∷ [])
+    pub high :
+        (b : Bool) → m < length l → split (length l) < m
+        → subproof H m l b ≡ subproof H (m - split (length l)) (right l) false ++ (root H (left l) ∷ [])
 
   -- what an inclusion path p yields for the leaf hash h at place m of n
   pub record Included (m n : ℕ) (h : List ℕ) (p : List (List ℕ)) : Type 0 where
