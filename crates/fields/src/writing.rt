@@ -5,7 +5,6 @@ use crate::layout::Inside;
 use crate::layout::check_inside;
 use crate::layout::left_of;
 use octets::Width;
-use octets::copy;
 use octets::put;
 use octets::put_number;
 use octets::width_of;
@@ -125,7 +124,7 @@ pub(crate) fn hash_at(v: &[u8], at: usize) -> [u8; 32]
     ensures { λ r. ⌜ r ≡ take 32 (drop at (now (v .entry))) ⌝ }
 {
     let mut h = [0u8; 32];
-    copy(v, at, 32, &mut h, 0);
+    put(&mut h, 0, &v[at..at + 32]);
     h
 }
 

@@ -58,17 +58,13 @@ put-none out b at = sym (take-drop out at)
     take-drop : (l : List ℕ) (k : ℕ) → take k l ++ drop (k + 0) l ≡ l
     take-drop l k = let z : k + 0 ≡ k = omega arith in rw z (take-append-drop k l)
 
--- a turn of a loop that stores the bytes of s from `from` on, one by one
-pub put-turn : (out₀ out s : List ℕ) (at from i : ℕ) → at + i < length out₀ → from + i < length s → length out ≡ length out₀ →
-    out ≡ put out₀ at (take i (drop from s)) → set out (at + i) (getD s (from + i) 0) ≡ put out₀ at (take (i + 1) (drop from s))
-put-turn out₀ out s at from i room more l e =
-    let b = drop from s in
-    let k : i < length b = simp length-drop (omega arith) in
-    let x : getD b i 0 ≡ getD s (from + i) 0 = getD-drop from s i 0 in
-    set-put out (at + i) (getD s (from + i) 0) (omega arith)
-    ∙ ap (λ (y : ℕ). put out (at + i) (y ∷ [])) (sym x)
-    ∙ ap (λ (o : List ℕ). put o (at + i) (getD b i 0 ∷ [])) e
-    ∙ put-more out₀ b (getD b i 0 ∷ []) (drop (suc i) b) at i (omega arith) (omega arith) (drop-cons b i 0 k)
+-- a turn of a loop that stores the bytes of s, one by one
+pub put-turn : (out₀ out s : List ℕ) (at i : ℕ) → at + i < length out₀ → i < length s → length out ≡ length out₀ →
+    out ≡ put out₀ at (take i s) → set out (at + i) (getD s i 0) ≡ put out₀ at (take (i + 1) s)
+put-turn out₀ out s at i room more l e =
+    set-put out (at + i) (getD s i 0) (omega arith)
+    ∙ ap (λ (o : List ℕ). put o (at + i) (getD s i 0 ∷ [])) e
+    ∙ put-more out₀ s (getD s i 0 ∷ []) (drop (suc i) s) at i (omega arith) (omega arith) (drop-cons s i 0 more)
 
 pub put-all : (out b : List ℕ) (at n : ℕ) → n ≡ length b → put out at (take n b) ≡ put out at b
 put-all out b at n e = rw (e, take-length)

@@ -2,17 +2,17 @@
 ghost use mathlib.Core.Path.{_≡_};
 ghost use Prim.Native.Nat.{_+_, _≤_};
 ghost use lib.Dec.{leb};
-ghost use lib.ListN.{length, take, drop};
+ghost use lib.ListN.{length};
 ghost use Rattle.octets.specs.Bytes.{put as putBytes, putWithin, copied};
 
-// The one loop that copies: `len` bytes of s from `from` on, over a buffer from `at` on.
-fn store(out: &mut [u8], at: usize, s: &[u8], from: usize, len: usize)
-    requires { ⌜ (at + len ≤ length (now out)) × (from + len ≤ length (now s)) ⌝ }
-    ensures { λ _. ⌜ now (out .exit) ≡ putBytes (now (out .entry)) at (take len (drop from (now (s .entry)))) ⌝ }
+// The one loop that copies: s over a buffer from `at` on.
+fn store(out: &mut [u8], at: usize, s: &[u8])
+    requires { ⌜ at + length (now s) ≤ length (now out) ⌝ }
+    ensures { λ _. ⌜ now (out .exit) ≡ putBytes (now (out .entry)) at (now (s .entry)) ⌝ }
 {
     let mut i = 0;
-    while i < len {
-        out[at + i] = s[from + i];
+    while i < s.len() {
+        out[at + i] = s[i];
         i += 1;
     }
 }
@@ -35,7 +35,7 @@ pub fn put(out: &mut [u8], at: usize, s: &[u8])
     if !reaches(out.len(), at, n) {
         return;
     }
-    store(out, at, s, 0, n);
+    store(out, at, s);
 }
 
 // Writes the `len` bytes of s from `from` on over a buffer from `at` on; nothing where s has fewer.
@@ -45,8 +45,6 @@ pub fn copy(s: &[u8], from: usize, len: usize, out: &mut [u8], at: usize)
     if !reaches(s.len(), from, len) {
         return;
     }
-    if !reaches(out.len(), at, len) {
-        return;
-    }
-    store(out, at, s, from, len);
+    let end = from + len;
+    put(out, at, &s[from..end]);
 }
