@@ -5,12 +5,12 @@ use Prim.Native.Nat.{ℕ, zero, suc, _+_, _-_, _*_, _/_, _%_, _^_, _<_, _≤_}
 use native.Mathlib.Nat.{add-suc, add-zero, zero-add, div-one}
 use native.Mathlib.Numerals.{add-one}
 use native.Mathlib.Omega.{arith}
-use lib.ListN.{length, take, drop, set, getD, replicate, take-append-drop, length-append, length-replicate, replicate-append-replicate, List·getD-append}
+use lib.ListN.{length, take, drop, set, getD, replicate, take-append-drop, length-append, length-set, length-replicate, replicate-append-replicate, List·getD-append}
 use lib.Seq.{paste, set-append-seam, take-append-seam, take-length, drop-append-add, drop-at, take-at, length-take-le, getD-append-add}
-use Rattle.octets.specs.Bytes.{put}
+use Rattle.octets.specs.Bytes.{put, putWithin}
 use Rattle.octets.specs.Numbers.{be}
 use Rattle.octets.proofs.Numbers.{be-length}
-use Rattle.octets.proofs.Putting.{put-length, put-then, set-put}
+use Rattle.octets.proofs.Putting.{put-length, put-then, set-put, put-in, pasted}
 use Rattle.sha256.specs.declared.State.{State}
 use Rattle.sha256.specs.Words.{wordFrom}
 use Rattle.hash.specs.Message.{zeros, ending, padded, absorbed, hashValue, stateBytes}
@@ -152,6 +152,27 @@ packed x d b l n end h m e p q r =
     let o : end - 8 ≡ length x + suc (zeros n) = rw f (omega arith) in
     rw (r, p, q, g, o, marked x (be 8 (8 * n)) (zeros n) (128 - end)) (take-at (x ++ ending n) (blank (128 - end)) end k)
 
+-- 0x01 and two hashes in an array of zeros, the mark and the length behind them
+pub node-packed : (l r a a₁ a₂ a₃ b : List ℕ) → length l ≡ 32 → length r ≡ 32 → a ≡ replicate (length a) 0 → length a ≡ 128 → a₁ ≡ putWithin (set a 0 1) 1 l
+    → a₂ ≡ putWithin a₁ 33 r → b ≡ be 8 520 → a₃ ≡ putWithin (set a₂ 65 0x80) 120 b → take 128 a₃ ≡ (1 ∷ (l ++ r)) ++ ending 65
+unfolding blank
+node-packed l r a a₁ a₂ a₃ b hl hr zs la p₁ p₂ eb p₃ =
+    let x : List ℕ = 1 ∷ (l ++ r) in
+    let lx : length x ≡ 65 = omega (arith, length-append l r) in
+    let s : set a 0 1 ≡ put a 0 (1 ∷ []) = set-put a 0 1 (omega arith) in
+    let q₁ : a₁ ≡ put (set a 0 1) 1 l = p₁ ∙ put-in (set a 0 1) l 1 (simp length-set (omega arith)) in
+    let e₁ : a₁ ≡ put a 0 (1 ∷ l) = next a (set a 0 1) a₁ (1 ∷ []) l 1 refl s q₁ in
+    let l₁ : length a₁ ≡ 128 = ap length e₁ ∙ put-length a (1 ∷ l) 0 (omega arith) ∙ la in
+    let e₂ : a₂ ≡ put a 0 x = next a a₁ a₂ (1 ∷ l) r 33 (omega arith) e₁ (p₂ ∙ put-in a₁ r 33 (omega arith)) in
+    let l₂ : length a₂ ≡ 128 = ap length e₂ ∙ put-length a x 0 (omega arith) ∙ la in
+    let z : drop 65 a ≡ replicate 63 0 = ap (drop 65) (zs ∙ ap (λ (k : ℕ). replicate k 0) la) ∙ zeros-left 65 63 in
+    let k : 0 + length x ≡ 65 = omega arith in
+    let m : 63 ≡ 128 - length x = omega arith in
+    let d : a₂ ≡ x ++ replicate (128 - length x) 0 = e₂ ∙ ap (λ (j : ℕ). x ++ drop j a) k ∙ ap (λ (y : List ℕ). x ++ y) (z ∙ ap (λ (j : ℕ). replicate j 0) m) in
+    let lb : length b ≡ 8 = ap length eb ∙ be-length 8 520 in
+    let f : a₃ ≡ paste (set a₂ 65 0x80) 120 b (length b) = pasted (set a₂ 65 0x80) b 120 (simp length-set (omega arith)) p₃ in
+    packed x a₂ b a₃ 65 128 (omega arith) (omega arith) (omega arith) d eb (rw lx f)
+
 -- ---- words that lie elsewhere
 
 module _ (a b : List ℕ) (p q : ℕ) (e : (i : ℕ) → i < 64 → getD a (p + i) 0 ≡ getD b (q + i) 0) where
@@ -258,3 +279,13 @@ module _ (C : State → (ℕ → ℕ) → State) (same : ByWords C) where
       → absorbed C s ((h ++ m) ++ ending n) ((length h + length m + 72) / 64) ≡ hashValue C s (h ++ m)
   unfolding absorbed
   short-ends s h m n e = rw (length-append h m) at (hash-ends s [] (h ++ m) 0 n refl (rw (length-append h m) (omega arith)))
+
+  -- the two blocks of a node
+  pub node-ends : (s : State) (l r a : List ℕ) → length a ≡ 128 → take 128 a ≡ (1 ∷ (l ++ r)) ++ ending 65
+      → C (C s (wordFrom a 0)) (wordFrom a 64) ≡ hashValue C s (1 ∷ (l ++ r))
+  node-ends s l r a h e =
+      let n : length (take 128 a) ≡ 128 = length-take-le 128 a (omega arith) in
+      let m : length ((1 ∷ (l ++ r)) ++ ending 65) ≡ length (1 ∷ (l ++ r)) + length (ending 65) = length-append (1 ∷ (l ++ r)) (ending 65) in
+      let k : length (1 ∷ l) + length r ≡ 65 = omega (arith, n, m, ap length e, length-append l r, ending-length 65) in
+      two-blocks s a ((1 ∷ (l ++ r)) ++ ending 65) (length (1 ∷ l) + length r) 128 e (omega arith) (parts-length (1 ∷ l) r 65 (omega arith)) (omega arith) (omega arith)
+      ∙ short-ends s (1 ∷ l) r 65 (omega arith)

@@ -113,14 +113,28 @@ pub(crate) fn hash_of(head: &[u8], m: &[u8]) -> State
     long(head, m, &mut w)
 }
 
+// 0x01, left and right, and what follows a message of 65 bytes, in two blocks of zeros. Every length is known, so that each copy is a few moves.
+fn pack_node(left: &[u8; 32], right: &[u8; 32], a: &mut [u8])
+    requires { ⌜ (now a ≡ replicate (length (now a)) 0) × (length (now a) ≡ 128) ⌝ }
+    ensures { λ _. ⌜ take 128 (now (a .exit)) ≡ (1 ∷ (now (left .entry) ++ now (right .entry))) ++ ending 65 ⌝ }
+{
+    let b = be8(520);
+    a[0] = 1;
+    put(a, 1, left);
+    put(a, 33, right);
+    a[65] = 0x80;
+    put(a, 120, &b);
+}
+
 // The hash value after 0x01, left and right (RFC 9162, section 2.1.1).
 pub(crate) fn node_of(left: &[u8; 32], right: &[u8; 32]) -> State
     ensures { λ r. ⌜ r ≡ hashValue compressOf initialOf (1 ∷ (now (left .entry) ++ now (right .entry))) ⌝ }
 {
     let mut w = [0u32; 64];
-    let mut h = [1u8; 33];
-    put(&mut h, 1, left);
-    finish(initial(), &h, right, 65, &mut w)
+    let mut a = [0u8; 128];
+    pack_node(left, right, &mut a);
+    let t = compress(initial(), &a, 0, &mut w);
+    compress(t, &a, 64, &mut w)
 }
 
 // The four bytes of a word. Here and not a call of `octets`: there are eight of them for each hash.
