@@ -89,7 +89,7 @@ pub record Body (i : Inner) (b : List ℕ) : Type 0 where
 pub body : (i : Inner) (b : List ℕ) (at : ℕ) → inside i b at ≡ Fine → Body i b
 unfolding wrap unwrap bodySize wholes
 body Opaque b at e = record { again = refl; size = refl; round = refl }
-body ExtensionList b at e = record { again = refl; size = refl; round = refl }
+body (ExtensionList o) b at e = record { again = refl; size = refl; round = refl }
 body NodeList b at e =
     let h = path-hashes b at e in
     let k = h .count in
@@ -131,7 +131,7 @@ prefixed-length (suc k) v h =
 pub value : (i : Inner) (v : List ℕ) → wholes i (length v) ≡ true → Wrapped i v
 unfolding wrap unwrap bodySize wholes
 value Opaque v e = record { again = refl; size = refl }
-value ExtensionList v e = record { again = refl; size = refl }
+value (ExtensionList o) v e = record { again = refl; size = refl }
 value NodeList v e =
     let z : length v % 32 ≡ 0 = eqb-true _ _ e in
     let h : length v ≡ 32 * (length v / 32) = omega arith in

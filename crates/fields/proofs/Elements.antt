@@ -14,7 +14,7 @@ use Rattle.fields.specs.declared.layout.Step.{Step}
 use Rattle.fields.specs.declared.layout.Step.the-variants.{Size, Not}
 use Rattle.fields.specs.declared.layout.Inside.the-variants.{Fine, Wrong}
 use Rattle.octets.specs.Numbers.{unbe}
-use Rattle.fields.specs.Layout.{element, elements, insideFrom, past}
+use Rattle.fields.specs.Layout.{outOfOrder, element, elements, insideFrom, past}
 use Rattle.fields.specs.Inner.{part}
 
 -- a part of a list
@@ -41,12 +41,13 @@ same-size m n t u e = cc
 pub element-size : (i : Inner) (last : ℕ) (r : List ℕ) (n t : ℕ) → 0 < length r → element i last r ≡ Size n t → (0 < n) × (n ≤ length r)
 unfolding element
 element-size Opaque last r n t h e = let z = same-size _ _ _ _ e in (omega arith, omega arith)
-element-size ExtensionList last r n t h e = go (ltb (length r) 4) (ltb (length r - 4) (unbe (take 2 (drop 2 r)))) refl refl e
+element-size (ExtensionList o) last r n t h e = go (ltb (length r) 4) (ltb (length r - 4) (unbe (take 2 (drop 2 r)))) (outOfOrder o last (unbe (take 2 r))) refl refl e
   where
-    go : (a b : Bool) → ltb (length r) 4 ≡ a → ltb (length r - 4) (unbe (take 2 (drop 2 r))) ≡ b → cond a (Not 2) (cond b (Not 2) (Size (4 + unbe (take 2 (drop 2 r))) (unbe (take 2 r) + 1))) ≡ Size n t → (0 < n) × (n ≤ length r)
-    go true b p q e = absurd (not-size 2 n t e)
-    go false true p q e = absurd (not-size 2 n t e)
-    go false false p q e = let z = same-size _ _ _ _ e in (omega arith, omega (arith, ltb-false (length r) 4 p, ltb-false (length r - 4) (unbe (take 2 (drop 2 r))) q))
+    go : (a b c : Bool) → ltb (length r) 4 ≡ a → ltb (length r - 4) (unbe (take 2 (drop 2 r))) ≡ b → cond a (Not 2) (cond b (Not 2) (cond c (Not 15) (Size (4 + unbe (take 2 (drop 2 r))) (unbe (take 2 r) + 1)))) ≡ Size n t → (0 < n) × (n ≤ length r)
+    go true b c p q e = absurd (not-size 2 n t e)
+    go false true c p q e = absurd (not-size 2 n t e)
+    go false false true p q e = absurd (not-size 15 n t e)
+    go false false false p q e = let z = same-size _ _ _ _ e in (omega arith, omega (arith, ltb-false (length r) 4 p, ltb-false (length r - 4) (unbe (take 2 (drop 2 r))) q))
 element-size NodeList last r n t h e = go (eqb (getD r 0 0) 32) (ltb (length r) 33) refl e
   where
     go : (a b : Bool) → ltb (length r) 33 ≡ b → cond a (cond b (Not 2) (Size 33 0)) (Not 5) ≡ Size n t → (0 < n) × (n ≤ length r)

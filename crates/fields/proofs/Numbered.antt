@@ -19,7 +19,7 @@ use Rattle.fields.specs.declared.layout.Step.the-variants.{Size, Not}
 use Rattle.fields.specs.declared.layout.Inside.{Inside}
 use Rattle.fields.specs.declared.layout.Inside.the-variants.{Fine, Wrong}
 use Rattle.fields.specs.Checked.{Checked, good, bad}
-use Rattle.fields.specs.Layout.{element, elements, insideFrom, inside, past, whole, numberAt, vectorAt, field, next, push, read}
+use Rattle.fields.specs.Layout.{outOfOrder, element, elements, insideFrom, inside, past, whole, numberAt, vectorAt, field, next, push, read}
 use Rattle.fields.proofs.Answers.{good-bad, same-number}
 
 -- what each answer says of its number
@@ -38,12 +38,13 @@ NumberedField (Bad x p) = 0 < x
 element-numbered : (i : Inner) (last : ℕ) (r : List ℕ) → Numbered (element i last r)
 unfolding element
 element-numbered Opaque last r = tt
-element-numbered ExtensionList last r = go (ltb (length r) 4) (ltb (length r - 4) (unbe (take 2 (drop 2 r))))
+element-numbered (ExtensionList o) last r = go (ltb (length r) 4) (ltb (length r - 4) (unbe (take 2 (drop 2 r)))) (outOfOrder o last (unbe (take 2 r)))
   where
-    go : (a b : Bool) → Numbered (cond a (Not 2) (cond b (Not 2) (Size (4 + unbe (take 2 (drop 2 r))) (unbe (take 2 r) + 1))))
-    go true b = omega arith
-    go false true = omega arith
-    go false false = tt
+    go : (a b c : Bool) → Numbered (cond a (Not 2) (cond b (Not 2) (cond c (Not 15) (Size (4 + unbe (take 2 (drop 2 r))) (unbe (take 2 r) + 1)))))
+    go true b c = omega arith
+    go false true c = omega arith
+    go false false true = omega arith
+    go false false false = tt
 element-numbered NodeList last r = go (eqb (getD r 0 0) 32) (ltb (length r) 33)
   where
     go : (a b : Bool) → Numbered (cond a (cond b (Not 2) (Size 33 0)) (Not 5))

@@ -1,11 +1,13 @@
 -- Reading by a layout, which is a list of fields. Numbers are big-endian (RFC 9162, section 1.2, and RFC 8446, section 3). Assumes nothing.
 use Prim.Native.Nat.{ℕ, zero, suc, _+_, _-_}
 use mathlib.Core.List.{List, [], _∷_}
-use mathlib.Core.Bool.{cond}
+use mathlib.Core.Bool.{Bool, false, cond}
 use lib.ListN.{length, getD, take, drop}
 use lib.Dec.{ltb, eqb}
 use Rattle.octets.specs.Numbers.{widthOf, unbe}
 use Rattle.fields.specs.declared.layout.Part.{Part}
+use Rattle.fields.specs.declared.layout.Order.{Order}
+use Rattle.fields.specs.declared.layout.Order.the-variants.{Ordered, Unordered}
 use Rattle.fields.specs.declared.layout.Inner.{Inner}
 use Rattle.fields.specs.declared.layout.Inner.the-variants.{Opaque, ExtensionList, NodeList}
 use Rattle.fields.specs.declared.layout.Field.{Field}
@@ -18,15 +20,21 @@ use Rattle.fields.specs.declared.layout.Inside.{Inside}
 use Rattle.fields.specs.declared.layout.Inside.the-variants.{Fine, Wrong}
 use Rattle.fields.specs.Checked.{Checked, good, bad}
 
+-- whether a type is out of order, told one more than the type before it, or 0 at the first: in an ordered list a type is above the one before (section 4.8)
+abbrev pub outOfOrder : Order → ℕ → ℕ → Bool
+outOfOrder Ordered last t = ltb t last
+outOfOrder Unordered last t = false
+
 -- the first element of a body that is not empty: its size, and what the next one must know of it; or the number of its refusal.
 -- An extension (section 4.6) is a type of 2 bytes and data <0..65535>, and the next one is told one more than its type; a node hash
 -- (section 4.9) is <32..255>, and only 32 is ours.
 unfoldable pub element : Inner → ℕ → List ℕ → Step
 element Opaque last r = Size (length r) 0
-element ExtensionList last r =
+element (ExtensionList o) last r =
     cond (ltb (length r) 4) (Not 2)
     (cond (ltb (length r - 4) (unbe (take 2 (drop 2 r)))) (Not 2)
-    (Size (4 + unbe (take 2 (drop 2 r))) (unbe (take 2 r) + 1)))
+    (cond (outOfOrder o last (unbe (take 2 r))) (Not 15)
+    (Size (4 + unbe (take 2 (drop 2 r))) (unbe (take 2 r) + 1))))
 element NodeList last r =
     cond (eqb (getD r 0 0) 32)
     (cond (ltb (length r) 33) (Not 2) (Size 33 0))

@@ -40,24 +40,24 @@ stripped (suc k) b = take 32 (drop 1 b) ++ stripped k (drop 33 b)
 -- the body that a value stands as, and the value of a body: only node hashes differ, whose value is the joined hashes
 unfoldable pub wrap : Inner → List ℕ → List ℕ
 wrap Opaque v = v
-wrap ExtensionList v = v
+wrap (ExtensionList o) v = v
 wrap NodeList v = prefixed (length v / 32) v
 
 unfoldable pub unwrap : Inner → List ℕ → List ℕ
 unwrap Opaque b = b
-unwrap ExtensionList b = b
+unwrap (ExtensionList o) b = b
 unwrap NodeList b = stripped (length b / 33) b
 
 -- how long a body a value of some length needs, a hash begun counting whole
 unfoldable pub bodySize : Inner → ℕ → ℕ
 bodySize Opaque n = n
-bodySize ExtensionList n = n
+bodySize (ExtensionList o) n = n
 bodySize NodeList n = (n + 31) / 32 * 33
 
 -- a value of that length is whole
 unfoldable pub wholes : Inner → ℕ → Bool
 wholes Opaque n = true
-wholes ExtensionList n = true
+wholes (ExtensionList o) n = true
 wholes NodeList n = eqb (n % 32) 0
 
 abbrev pub fine : Inside → List ℕ → Checked (List ℕ)

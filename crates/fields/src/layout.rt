@@ -6,7 +6,7 @@ ghost use mathlib.Core.Path.{_≡_};
 ghost use Prim.Native.Nat.{_-_, _<_, _≤_};
 ghost use lib.ListN.{length, drop};
 ghost use Rattle.octets.specs.Numbers.{widthOf};
-ghost use Rattle.fields.specs.Layout.{element, inside, numberAt, vectorAt, field};
+ghost use Rattle.fields.specs.Layout.{outOfOrder, element, inside, numberAt, vectorAt, field};
 ghost use Rattle.fields.specs.Inner.{part};
 
 // Where a field lies, past its length prefix if it has one, and the number read there: a number's value, a vector's length.
@@ -16,10 +16,16 @@ pub struct Part {
     pub value: u64,
 }
 
+// Whether a list's types must ascend (RFC 9162, section 4.8), or may stand in any order.
+pub enum Order {
+    Ordered,
+    Unordered,
+}
+
 // What a vector holds: bytes of no further form, extensions (RFC 9162, section 4.6), or node hashes (section 4.9).
 pub enum Inner {
     Opaque,
-    ExtensionList,
+    ExtensionList(Order),
     NodeList,
 }
 
@@ -50,10 +56,19 @@ pub enum Inside {
     Wrong { number: u32, place: usize },
 }
 
-// `last` is one more than the type of the extension before, 0 at the first; nothing is refused by it.
-fn first_extension(s: &[u8], at: usize, end: usize, last: usize) -> Step
+// `last` is one more than the type before, 0 at the first.
+fn is_out_of_order(order: Order, last: usize, kind: usize) -> bool
+    ensures { λ r. ⌜ r ≡ outOfOrder order last kind ⌝ }
+{
+    match order {
+        Order::Ordered => kind < last,
+        Order::Unordered => false,
+    }
+}
+
+fn first_extension(s: &[u8], at: usize, end: usize, order: Order, last: usize) -> Step
     requires { ⌜ (at < end) × (end ≤ length (now s)) ⌝ }
-    ensures { λ r. ⌜ r ≡ element Inner.ExtensionList last (part (now (s .entry)) at end) ⌝ }
+    ensures { λ r. ⌜ r ≡ element (Inner.ExtensionList order) last (part (now (s .entry)) at end) ⌝ }
 {
     let room = end - at;
     if room < 4 {
@@ -64,6 +79,10 @@ fn first_extension(s: &[u8], at: usize, end: usize, last: usize) -> Step
         return Step::Not(2);
     }
     let kind = number_at(s, at, Width::Two) as usize;
+    let wrong = is_out_of_order(order, last, kind);
+    if wrong {
+        return Step::Not(15);
+    }
     let len = 4 + n;
     let next = kind + 1;
     Step::Size { len, next }
@@ -89,7 +108,7 @@ fn first_element(s: &[u8], at: usize, end: usize, inner: Inner, last: usize) -> 
     let room = end - at;
     match inner {
         Inner::Opaque => Step::Size { len: room, next: 0 },
-        Inner::ExtensionList => first_extension(s, at, end, last),
+        Inner::ExtensionList(order) => first_extension(s, at, end, order, last),
         Inner::NodeList => first_node(s, at, end),
     }
 }

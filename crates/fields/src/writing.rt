@@ -37,7 +37,7 @@ fn body_size(inner: Inner, n: usize) -> usize
 {
     match inner {
         Inner::Opaque => n,
-        Inner::ExtensionList => n,
+        Inner::ExtensionList(_) => n,
         Inner::NodeList => (n + 31) / 32 * 33,
     }
 }
@@ -47,7 +47,7 @@ fn is_whole(inner: Inner, n: usize) -> bool
 {
     match inner {
         Inner::Opaque => true,
-        Inner::ExtensionList => true,
+        Inner::ExtensionList(_) => true,
         Inner::NodeList => n % 32 == 0,
     }
 }
@@ -59,7 +59,7 @@ fn value_inside(v: &[u8], inner: Inner) -> Inside
 {
     match inner {
         Inner::Opaque => Inside::Fine,
-        Inner::ExtensionList => check_inside(v, 0, v.len(), Inner::ExtensionList),
+        Inner::ExtensionList(_) => check_inside(v, 0, v.len(), inner),
         Inner::NodeList => Inside::Fine,
     }
 }
@@ -152,7 +152,7 @@ fn wrapped_size(inner: Inner, n: usize) -> usize
 {
     match inner {
         Inner::Opaque => n,
-        Inner::ExtensionList => n,
+        Inner::ExtensionList(_) => n,
         Inner::NodeList => n / 32 * 33,
     }
 }
@@ -163,7 +163,7 @@ fn put_body(out: &mut [u8], at: usize, v: &[u8], inner: Inner)
 {
     match inner {
         Inner::Opaque => put(out, at, v),
-        Inner::ExtensionList => put(out, at, v),
+        Inner::ExtensionList(_) => put(out, at, v),
         Inner::NodeList => put_nodes(out, at, v),
     }
 }

@@ -5,6 +5,7 @@ use mathlib.Core.List.{List, [], _∷_, map}
 use mathlib.Core.Bool.{cond}
 use lib.ListN.{length, getD}
 use lib.Dec.{eqb, ltb}
+use Rattle.fields.specs.declared.layout.Order.the-variants.{Ordered}
 use Rattle.fields.specs.declared.layout.Inner.the-variants.{Opaque, ExtensionList, NodeList}
 use Rattle.fields.specs.declared.layout.Field.{Field}
 use Rattle.fields.specs.declared.layout.Field.the-variants.{Uint, Vector}
@@ -31,7 +32,7 @@ fieldOf LogId = Vector One 2 127 Opaque
 fieldOf IssuerKeyHash = Vector One 32 32 Opaque
 fieldOf Certificate = Vector Three 1 16777215 Opaque
 fieldOf RootHash = Vector One 32 32 Opaque
-fieldOf Extensions = Vector Two 0 65535 ExtensionList
+fieldOf Extensions = Vector Two 0 65535 (ExtensionList Ordered)
 fieldOf Signature = Vector Two 1 65535 Opaque
 fieldOf Path = Vector Two 0 65535 NodeList
 fieldOf Body = Vector Three 1 16777215 Opaque

@@ -1,6 +1,7 @@
 // Document 01's table of items: the kind of each named field, the fields of each case, and the types of each case.
 use fields::layout::Field;
 use fields::layout::Inner;
+use fields::layout::Order;
 use fields::reading::MOST_FIELDS;
 use octets::Width;
 ghost use mathlib.Core.Path.{_≡_};
@@ -198,7 +199,7 @@ pub(crate) fn field_of(name: Name) -> Field
             width: Width::Two,
             least: 0,
             most: 65535,
-            inner: Inner::ExtensionList,
+            inner: Inner::ExtensionList(Order::Ordered),
         },
         Name::Signature => Field::Vector {
             width: Width::Two,

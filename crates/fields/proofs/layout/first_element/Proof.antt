@@ -23,14 +23,14 @@ sub-room c = search needs
 enum-told : tie.Need-enum-told
 enum-told c = search needs
 
-enum-told-2 : tie.Need-enum-told-2
-enum-told-2 c = search needs
+enum-known-inner : tie.Need-enum-known-inner
+enum-known-inner c = search needs
 
 first-extension-requires : tie.Need-first-extension-requires
 first-extension-requires c κs = search needs
 
-enum-told-3 : tie.Need-enum-told-3
-enum-told-3 c = search needs
+enum-told-2 : tie.Need-enum-told-2
+enum-told-2 c = search needs
 
 first-node-requires : tie.Need-first-node-requires
 first-node-requires c κs = search needs
@@ -39,11 +39,11 @@ returns : tie.Need-returns
 returns c = let a = c .before .before .before .args in opaque (a .s .now) (a .at) (a .end) (a .inner) (a .last) (omega arith) (omega arith) (c .enum-told .given .1)
 
 returns-2 : tie.Need-returns-2
-returns-2 c = rw (c .before .enum-told2 .given .1) (c .first-extension .ensures)
+returns-2 c = rw (c .before .before .inner .given .1) (c .first-extension .ensures)
 
 returns-3 : tie.Need-returns-3
 unfolding element
-returns-3 c = rw (c .before .enum-told3 .given .1) (c .first-node .ensures)
+returns-3 c = rw (c .before .enum-told2 .given .1) (c .first-node .ensures)
 
 pub first-element-spec : {M : Type 1} → statement M
 first-element-spec =
@@ -51,9 +51,9 @@ first-element-spec =
     (tie.spec
     sub-room
     enum-told
-    enum-told-2
+    enum-known-inner
     first-extension-requires
-    enum-told-3
+    enum-told-2
     first-node-requires
     returns
     returns-2

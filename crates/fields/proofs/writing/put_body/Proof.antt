@@ -6,6 +6,7 @@ use lib.ListN.{length}
 use borrow.Author.Needs.{needs}
 use Rattle.octets.specs.Bytes.{put, putWithin}
 use Rattle.octets.proofs.Putting.{put-in}
+use Rattle.fields.specs.declared.layout.Order.{Order}
 use Rattle.fields.specs.declared.layout.Inner.{Inner}
 use Rattle.fields.specs.declared.layout.Inner.the-variants.{Opaque, ExtensionList, NodeList}
 use Rattle.fields.specs.Write.{prefixed, wrap}
@@ -18,9 +19,9 @@ module _ (i : Inner) (out out₁ v : List ℕ) (at : ℕ) (h : at + length (wrap
   unfolding wrap
   plain e p = let g = rw e at h in rw e (p ∙ put-in out v at g)
 
-  exts : i ≡ ExtensionList → out₁ ≡ putWithin out at v → out₁ ≡ put out at (wrap i v)
+  exts : (o : Order) → i ≡ ExtensionList o → out₁ ≡ putWithin out at v → out₁ ≡ put out at (wrap i v)
   unfolding wrap
-  exts e p = let g = rw e at h in rw e (p ∙ put-in out v at g)
+  exts o e p = let g = rw e at h in rw e (p ∙ put-in out v at g)
 
   nodes : i ≡ NodeList → out₁ ≡ put out at (prefixed (length v / 32) v) → out₁ ≡ put out at (wrap i v)
   unfolding wrap
@@ -43,7 +44,7 @@ returns c =
 returns-2 : tie.Need-returns-2
 returns-2 c =
     let s = c .before .before .before .before .before .before .before .before in
-    exts _ (s .args .out .now) _ (s .args .v .now) (s .args .at) (s .pre) (c .before .before .before .before .enum-told2 .given .1) (c .before .before .put2 .ensures)
+    exts _ (s .args .out .now) _ (s .args .v .now) (s .args .at) (s .pre) _ (c .before .before .before .before .enum-told2 .given .1) (c .before .before .put2 .ensures)
 
 returns-3 : tie.Need-returns-3
 returns-3 c =

@@ -7,6 +7,7 @@ use borrow.Author.Needs.{needs}
 use mathlib.Core.Bool.{true}
 use lib.Seq.{take-all}
 use borrow.Author.Tests.{eqb-true}
+use Rattle.fields.specs.declared.layout.Order.{Order}
 use Rattle.fields.specs.declared.layout.Inner.{Inner}
 use Rattle.fields.specs.declared.layout.Inner.the-variants.{Opaque, ExtensionList, NodeList}
 use Rattle.fields.specs.declared.layout.Inside.the-variants.{Fine}
@@ -27,9 +28,9 @@ nodes i v e h =
     let g : length v % 32 ≡ 0 = eqb-true _ _ (rw e at h) in
     rw e (sym (nodes-fine (length v / 32) v 0 (omega arith)))
 
-exts : (i : Inner) (v : List ℕ) → i ≡ ExtensionList → inside ExtensionList (part v 0 (length v)) 0 ≡ inside i (wrap i v) 0
+exts : (i : Inner) (v : List ℕ) (o : Order) → i ≡ ExtensionList o → inside i (part v 0 (length v)) 0 ≡ inside i (wrap i v) 0
 unfolding wrap
-exts i v e =
+exts i v o e =
     let z : length v ≤ length v - 0 = omega arith in
     rw (e, take-all (length v - 0) v z)
 
@@ -49,7 +50,7 @@ returns : tie.Need-returns
 returns c = plain _ _ (c .enum-told .given .1)
 
 returns-2 : tie.Need-returns-2
-returns-2 c = c .check-inside .ensures ∙ exts _ _ (c .before .enum-told2 .given .1)
+returns-2 c = c .check-inside .ensures ∙ exts _ _ _ (c .before .enum-told2 .given .1)
 
 returns-3 : tie.Need-returns-3
 returns-3 c = nodes _ _ (c .enum-told3 .given .1) (c .before .before .before .pre)
