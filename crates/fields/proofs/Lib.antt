@@ -6,8 +6,11 @@ pub mod Founds
 pub mod Bodies
 pub mod Fills
 pub mod Vectors
+pub mod Extending
 pub mod Rounds
 pub mod Within
+pub mod Ordering
+pub mod Sorting
 pub mod Numbered
 pub mod Resuming
 pub mod Filling

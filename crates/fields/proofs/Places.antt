@@ -47,7 +47,7 @@ fine-wrong x y e = absurd (let z : _≡_ {A = ℕ} 0 1 = cc in omega arith)
 same-place : (x y p q : ℕ) → Wrong x p ≡ Wrong y q → q ≡ p
 same-place x y p q e = cc
 
-elements-place : (n : ℕ) (i : Inner) (last : ℕ) (r : List ℕ) (at x p : ℕ) → elements n i last r at ≡ Wrong x p → (at ≤ p) × (p ≤ at + length r)
+pub elements-place : (n : ℕ) (i : Inner) (last : ℕ) (r : List ℕ) (at x p : ℕ) → elements n i last r at ≡ Wrong x p → (at ≤ p) × (p ≤ at + length r)
 unfolding elements
 elements-place zero i last r at x p e = fine-wrong x p e
 elements-place (suc n) i last r at x p e = go (eqb (length r) 0) refl (element i last r) refl e (λ m t. elements-place n i t (drop m r) (at + m) x p)

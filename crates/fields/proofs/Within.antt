@@ -115,6 +115,10 @@ met-behind (f ∷ fs) s at x y e = go (field f (drop at s) at) refl e (λ p. met
             let r = less p (rw ha e) in
             (record { before = rw hz (r .1, r .0 .before); some = rw hz (omega (arith, r .0 .some)); over = λ q. r .0 .over (omega (arith, rw hz at q)) }, omega (arith, r .1, found-after f (drop at s) at p hz))
 
+-- a layout is refused where its first field starts, or behind it
+pub refused-behind : (fs : List Field) (s : List ℕ) (at x y : ℕ) → read fs s at ≡ bad x y → at ≤ y
+refused-behind fs s at x y e = met-behind fs s at x y e .1
+
 pub found-before : FoundBefore
 found-before fs s at = (read-found fs s at, λ x y e. met-behind fs s at x y e .0)
 

@@ -7,4 +7,5 @@ pub mod Effect
 pub mod Answers
 pub mod Path
 pub mod Claims
+pub mod Extensions
 pub mod Inner

@@ -11,6 +11,7 @@ pub mod writing;
 
 ghost use Rattle.fields.specs.Claims.{ReadThenFilled, FilledThenRead, LayoutAgain, LayoutBack, FieldsWithin, RefusedWithin, FoundBefore};
 ghost use Rattle.fields.specs.Claims.{CopiedIsJoined, JoinedIsCopied, CopyKeeps};
+ghost use Rattle.fields.specs.Extensions.{FineIsExtended, OneList, FifteenIsOutOfOrder, StillRead, RefusedByOrder, ReadByOrder, RefusedAsRead};
 
 // What is proved of fields and layouts beside the functions' own promises. It does nothing.
 pub fn claims()
@@ -24,4 +25,11 @@ pub fn claims()
     ensures copied_is_joined { λ _. ⌜ CopiedIsJoined ⌝ }
     ensures joined_is_copied { λ _. ⌜ JoinedIsCopied ⌝ }
     ensures copy_keeps { λ _. ⌜ CopyKeeps ⌝ }
+    ensures fine_is_extended { λ _. ⌜ FineIsExtended ⌝ }
+    ensures one_list { λ _. ⌜ OneList ⌝ }
+    ensures fifteen_is_out_of_order { λ _. ⌜ FifteenIsOutOfOrder ⌝ }
+    ensures still_read { λ _. ⌜ StillRead ⌝ }
+    ensures refused_by_order { λ _. ⌜ RefusedByOrder ⌝ }
+    ensures read_by_order { λ _. ⌜ ReadByOrder ⌝ }
+    ensures refused_as_read { λ _. ⌜ RefusedAsRead ⌝ }
 {}

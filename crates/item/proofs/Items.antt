@@ -23,7 +23,7 @@ use Rattle.fields.specs.Layout.{field, next, push, read, bytesAt}
 use Rattle.fields.specs.Write.{fill, Filled, join, write, values, opened, unwrap, stripped}
 use Rattle.octets.specs.Limits.{mostItem}
 use Rattle.item.specs.Table.{TypeRow, fieldOf, namesOf, layoutOf, types, find}
-use Rattle.item.specs.Item.{Reading, item, readItem, Vectors, vectors, valueOf, filled, writeItem}
+use Rattle.item.specs.Item.{Reading, item, readBy, readItem, Vectors, vectors, valueOf, filled, writeItem}
 use Rattle.fields.specs.Effect.{Effect, unwritten, wrote, effect}
 use Rattle.item.specs.Claims.{ReadThenWritten, Gives, ReadGives, Sized, ReadsBack, WrittenThenRead, RefusedWithin, FieldsWithin, WriterKeeps}
 use Rattle.fields.proofs.Answers.{bad-good, good-bad, same-good, same-place}
@@ -47,7 +47,7 @@ pub record WasRead (s : List ℕ) (r : Reading) : Type 0 where
   pub fields : read (layoutOf (r .case)) s 2 ≡ good (r .fields)
 
 pub was-read : (s : List ℕ) (r : Reading) → readItem s ≡ good r → WasRead s r
-unfolding readItem
+unfolding readBy
 was-read s r e = go (ltb mostItem (length s)) (ltb (length s) 2) (find types k) refl refl refl e
   where
     k : ℕ
@@ -81,7 +81,7 @@ find-place (r ∷ rs) k x at e = go (eqb k (r .kind)) e (find-place rs k x at)
     go false e later = later e
 
 pub refused-within : RefusedWithin
-unfolding readItem
+unfolding readBy
 refused-within s x at e = go (ltb mostItem (length s)) (ltb (length s) 2) (find types k) refl refl e
   where
     k : ℕ
@@ -195,7 +195,7 @@ was-written k n t out m e = go (find types k) refl e
 
 -- what is written reads back as the same fields
 pub written-then-read : WrittenThenRead
-unfolding readItem
+unfolding readBy
 written-then-read k n t out m z e =
     let h = was-written k n t out m e in
     let c = h .case in

@@ -4,3 +4,4 @@ pub mod Naming
 pub mod Trips
 pub mod Every
 pub mod Newest
+pub mod Ordering

@@ -27,7 +27,7 @@ use Rattle.item.specs.declared.reader.Item.{Item}
 use Rattle.item.specs.declared.reader.Item.the-variants.{Entry as entry, Receipt as receipt, SignedHead as signedHead, Consistency as consistency}
 use Rattle.item.specs.declared.reader.Item.the-variants.{Inclusion as inclusion, Page as page, Refused as refused}
 use Rattle.item.specs.Table.{namesOf, layoutOf, metIn, types, find}
-use Rattle.item.specs.Item.{Reading, item, reading, readItem, Meets, metAfter, metBy}
+use Rattle.item.specs.Item.{Reading, item, reading, readBy, readItem, Meets, metAfter, metBy}
 use Rattle.item.specs.Claims.{Meeting, whole, typeBytes, named, after, NamesItsField}
 use Rattle.item.proofs.Rows.{layout-length, count-small}
 use Rattle.item.proofs.Items.{find-place}
@@ -96,7 +96,7 @@ met-field s c x at h e =
         after (m .over l)
 
 pub names-its-field : NamesItsField
-unfolding readItem metBy
+unfolding readBy metBy
 names-its-field s x at e = go (ltb mostItem (length s)) (ltb (length s) 2) (find types (unbe (take 2 s))) refl e
   where
     k : ℕ

@@ -1,17 +1,19 @@
 -- What is proved of whole items beside the promises, in the words of the second demand. Assumes nothing.
 use Prim.Native.Nat.{ℕ, _+_, _*_, _^_, _≤_, _<_}
 use mathlib.Core.Path.{_≡_}
-use mathlib.Core.List.{List, [], _∷_}
+use mathlib.Core.Logic.{_↔_, _≢_}
+use mathlib.Core.List.{List, [], _∷_, map}
 use lib.ListN.{length, getD, take, drop}
 use denote.Ref.{RefT}
 use Rattle.octets.specs.Bytes.{Bytes}
 use Rattle.fields.specs.declared.layout.Part.{Part}
-use Rattle.fields.specs.Checked.{good, bad}
+use Rattle.fields.specs.Checked.{Checked, good, bad}
 use Rattle.fields.specs.Layout.{partsFound, bytesAt}
 use Rattle.fields.specs.Write.{values}
 use Rattle.fields.specs.Effect.{wrote}
 use Rattle.fields.specs.Path.{pathAt, copyPath}
 use Rattle.fields.specs.Claims.{Each, PathCopied}
+use Rattle.fields.specs.Extensions.{unordered, GoesOn, InOrder}
 use Rattle.fields.specs.Answers.{noPart}
 use Rattle.octets.specs.Numbers.{unbe}
 use Rattle.item.specs.declared.table.Name.the-variants.{Timestamp}
@@ -25,7 +27,7 @@ use Rattle.item.specs.declared.reader.Item.the-variants.{Inclusion as in
 use Rattle.item.specs.declared.heads.Choice.the-variants.{Neither}
 use Rattle.item.specs.declared.writer.Numbers.{Numbers}
 use Rattle.item.specs.Table.{namesOf, layoutOf, types, find}
-use Rattle.item.specs.Item.{Reading, reading, readItem, metBy, Vectors, filled, writeItem}
+use Rattle.item.specs.Item.{Reading, reading, readBy, readItem, metBy, Vectors, filled, writeItem}
 use Rattle.item.specs.Newer.{which, Returns}
 
 -- the writer is given what was read in s: the type, and by each name that the type has, the value that was read there
@@ -158,3 +160,19 @@ WrittenThenTaken =
     (k : ℕ) (n : Numbers) (t : Vectors) (out : List ℕ) (m : ℕ) (i : Item) → Sized k n → writeItem k n t out .answer ≡ good m
     → reading i ≡ readItem (take m (writeItem k n t out .bytes))
     → Taken (Copied (take m (writeItem k n t out .bytes))) (take m (writeItem k n t out .bytes)) i k n t
+
+-- by the older rule, which asks for no order of extensions
+abbrev pub olderItem : List ℕ → Checked Reading
+olderItem s = readBy (λ c. map unordered (layoutOf c)) s
+
+-- no item still accepted changes its reading
+abbrev pub StillRead : Type 0
+StillRead = (s : List ℕ) (r : Reading) → readItem s ≡ good r → olderItem s ≡ good r
+
+-- 15 is given only where the older rule accepted what stands before that place, and every other refusal is the older rule's
+abbrev pub RefusedByOrder : Type 0
+RefusedByOrder = (s : List ℕ) (x y : ℕ) → readItem s ≡ bad x y → (x ≡ 15 → GoesOn y (olderItem s)) × (x ≢ 15 → olderItem s ≡ bad x y)
+
+-- what the older rule accepted is accepted now exactly if its extensions are in strictly ascending order (RFC 9162, section 4.8)
+abbrev pub ReadByOrder : Type 0
+ReadByOrder = (s : List ℕ) (r : Reading) → Bytes s → olderItem s ≡ good r → (readItem s ≡ good r) ↔ InOrder (layoutOf (r .case)) s (r .fields)

@@ -8,6 +8,7 @@ use lib.Dec.{ltb}
 use Rattle.octets.specs.Limits.{mostItem}
 use Rattle.octets.specs.Numbers.{unbe, be}
 use Rattle.fields.specs.declared.layout.Part.{Part}
+use Rattle.fields.specs.declared.layout.Field.{Field}
 use Rattle.fields.specs.Checked.{Checked, good, bad, then}
 use Rattle.fields.specs.Layout.{read, partsFound}
 use Rattle.fields.specs.Write.{Value, uint, bytes, Filled, join, write}
@@ -50,12 +51,15 @@ reading (page k timestamp agreement number body) =
     item Page k (timestamp ∷ agreement ∷ number ∷ body ∷ [])
 reading (refused number place met) = bad number place
 
--- a whole item: 1 at 0 if it is too long; then the two bytes of its type; then its fields
-unfoldable pub readItem : List ℕ → Checked Reading
-readItem s =
+-- a whole item by the fields of its line: 1 at 0 if it is too long; then the two bytes of its type; then its fields
+unfoldable pub readBy : (Case → List Field) → List ℕ → Checked Reading
+readBy fieldsOf s =
     cond (ltb mostItem (length s)) (bad 1 0)
     (cond (ltb (length s) 2) (bad 2 0)
-    (then (find types (unbe (take 2 s))) (λ c. then (read (layoutOf c) s 2) (item c (unbe (take 2 s))))))
+    (then (find types (unbe (take 2 s))) (λ c. then (read (fieldsOf c) s 2) (item c (unbe (take 2 s))))))
+
+abbrev pub readItem : List ℕ → Checked Reading
+readItem s = readBy layoutOf s
 
 -- what a refusal met: the whole item where it is too long, its type where that is cut or not in the list, the first field that is not found, or what comes
 -- after the last

@@ -9,7 +9,7 @@ mod table;
 mod writer;
 
 ghost use Rattle.item.specs.Claims.{ReadThenWritten, ReadGives, WrittenThenRead, WriterKeeps, RefusedWithin, FieldsWithin, EmptyIsNeither};
-ghost use Rattle.item.specs.Claims.{NamesItsField, PathIsSaid, TakenThenWritten, WrittenThenTaken};
+ghost use Rattle.item.specs.Claims.{NamesItsField, PathIsSaid, TakenThenWritten, WrittenThenTaken, StillRead, RefusedByOrder, ReadByOrder};
 pub use heads::newer;
 pub use reader::Item;
 pub use reader::read;
@@ -31,4 +31,7 @@ pub fn claims()
     ensures path_is_said { λ _. ⌜ PathIsSaid ⌝ }
     ensures taken_then_written { λ _. ⌜ TakenThenWritten ⌝ }
     ensures written_then_taken { λ _. ⌜ WrittenThenTaken ⌝ }
+    ensures still_read { λ _. ⌜ StillRead ⌝ }
+    ensures refused_by_order { λ _. ⌜ RefusedByOrder ⌝ }
+    ensures read_by_order { λ _. ⌜ ReadByOrder ⌝ }
 {}

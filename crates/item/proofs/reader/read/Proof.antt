@@ -13,7 +13,7 @@ use Rattle.item.specs.declared.table.Case.{Case}
 use Rattle.item.specs.declared.table.Met.{Met}
 use Rattle.item.specs.declared.table.Met.the-variants.{Whole, TypeBytes}
 use Rattle.item.specs.Table.{layoutOf, metIn, types, find}
-use Rattle.item.specs.Item.{item, readItem, Meets, metBy}
+use Rattle.item.specs.Item.{item, readBy, readItem, Meets, metBy}
 use Rattle.item.specs.Steps.{known as knownCase}
 use Rattle.item.proofs.reader.read.Statement.{statement}
 use Rattle.item.proofs.reader.read.Tie as tie
@@ -21,21 +21,21 @@ use Rattle.item.proofs.reader.read.Tie as tie
 -- the cases of an item, and of what its refusal met, over plain lists
 module _ (s : List ℕ) where
   long : mostItem < length s → (bad 1 0 ≡ readItem s) × (Whole ≡ metBy s)
-  unfolding readItem metBy
+  unfolding readBy metBy
   long h = rw (lt-ltb _ _ h) (refl, refl)
 
   module _ (fit : length s ≤ mostItem) where
     short : length s < 2 → (bad 2 0 ≡ readItem s) × (TypeBytes ≡ metBy s)
-    unfolding readItem metBy
+    unfolding readBy metBy
     short h = rw (le-ltb _ _ fit, lt-ltb _ _ h) (refl, refl)
 
     module _ (typed : 2 ≤ length s) (k : ℕ) (is : k ≡ unbe (take 2 s)) where
       unknown : find types k ≡ bad 4 0 → (bad 4 0 ≡ readItem s) × (TypeBytes ≡ metBy s)
-      unfolding readItem metBy
+      unfolding readBy metBy
       unknown e = rw (le-ltb _ _ fit, le-ltb _ _ typed, ← is, e) (refl, refl)
 
       known : (c : Case) → find types k ≡ good c → (then (read (layoutOf c) s 2) (item c k) ≡ readItem s) × (metIn c (length (partsFound (layoutOf c) s 2)) ≡ metBy s)
-      unfolding readItem metBy
+      unfolding readBy metBy
       known c e = rw (le-ltb _ _ fit, le-ltb _ _ typed, ← is, e) (refl, refl)
 
 returns : tie.Need-returns

@@ -1,0 +1,101 @@
+-- What the order of extensions changes in the answer on an item, from the laws over any layout. Assumes nothing.
+use mathlib.Core.Path.{_≡_, refl, ap, sym, subst, _∙_}
+use mathlib.Core.Logic.{_↔_}
+use mathlib.Core.List.{List, [], _∷_, map}
+use mathlib.Core.Bool.{Bool, true, false, cond}
+use Prim.Native.Nat.{ℕ}
+use native.Mathlib.Omega.{arith}
+use lib.ListN.{length, take}
+use lib.Dec.{ltb, eqb}
+use Rattle.octets.specs.Bytes.{Bytes}
+use Rattle.octets.specs.Limits.{mostItem}
+use Rattle.octets.specs.Numbers.{unbe}
+use Rattle.fields.specs.declared.layout.Part.{Part}
+use Rattle.fields.specs.declared.layout.Field.{Field}
+use Rattle.fields.specs.Checked.{Checked, good, bad, then}
+use Rattle.fields.specs.Layout.{read}
+use Rattle.fields.specs.Extensions.{unordered, GoesOn, InOrder}
+use Rattle.fields.proofs.Answers.{bad-good, good-bad, same-good, same-place, same-number}
+use Rattle.fields.proofs.Ordering as fields
+use Rattle.fields.proofs.Sorting as sorted
+use Rattle.item.specs.declared.table.Case.{Case}
+use Rattle.item.specs.Table.{TypeRow, layoutOf, types, find}
+use Rattle.item.specs.Item.{Reading, item, readBy, readItem}
+use Rattle.item.specs.Claims.{olderItem, StillRead, RefusedByOrder, ReadByOrder}
+
+find-number : (rs : List TypeRow) (k x at : ℕ) → find rs k ≡ bad x at → x ≡ 4
+unfolding find
+find-number [] k x at e = same-number 4 x 0 at e
+find-number (r ∷ rs) k x at e = go (eqb k (r .kind)) e (find-number rs k x at)
+  where
+    go : (b : Bool) → cond b (good (r .case)) (find rs k) ≡ bad x at → (find rs k ≡ bad x at → x ≡ 4) → x ≡ 4
+    go true e later = good-bad x at _ e
+    go false e later = later e
+
+-- both rules refuse before they look at a field, and alike, or read the fields of one line
+data Rules (s : List ℕ) (now older : Checked Reading) : Type 0 where
+  early : (x y : ℕ) → (x ≡ 15 → ⊥) → now ≡ bad x y → older ≡ bad x y → Rules s now older
+  line :
+      (c : Case) (k : ℕ) → now ≡ then (read (layoutOf c) s 2) (item c k) → older ≡ then (read (map unordered (layoutOf c)) s 2) (item c k)
+      → Rules s now older
+
+rules : (s : List ℕ) → Rules s (readItem s) (olderItem s)
+unfolding readBy
+rules s = go (ltb mostItem (length s)) (ltb (length s) 2) (find types k) refl
+  where
+    k : ℕ
+    k = unbe (take 2 s)
+
+    by : (Case → List Field) → Bool → Bool → Checked Case → Checked Reading
+    by fieldsOf a b c = cond a (bad 1 0) (cond b (bad 2 0) (then c (λ d. then (read (fieldsOf d) s 2) (item d k))))
+
+    go : (a b : Bool) (c : Checked Case) → find types k ≡ c → Rules s (by layoutOf a b c) (by (λ d. map unordered (layoutOf d)) a b c)
+    go true b c h = early 1 0 (λ z. omega arith) refl refl
+    go false true c h = early 2 0 (λ z. omega arith) refl refl
+    go false false (bad x y) h = early x y (λ z. omega (arith, find-number types k x y h)) refl refl
+    go false false (good d) h = line d k refl refl
+
+module _ (c : Case) (k : ℕ) where
+  -- what a line reads, and what it refuses
+  line-good : (a : Checked (List Part)) (r : Reading) → then a (item c k) ≡ good r → (a ≡ good (r .fields)) × (r .case ≡ c)
+  line-good (bad x y) r e = bad-good x y r e
+  line-good (good ps) r e = let q = same-good (record { case = c; kind = k; fields = ps }) r e in (ap (λ (z : Reading). good (z .fields)) q, sym (ap (λ (z : Reading). z .case) q))
+
+  line-bad : (a : Checked (List Part)) (x y : ℕ) → then a (item c k) ≡ bad x y → a ≡ bad x y
+  line-bad (good ps) x y e = good-bad x y _ e
+  line-bad (bad u v) x y e = cc
+
+  line-on : (a : Checked (List Part)) (y : ℕ) → GoesOn y a → GoesOn y (then a (item c k))
+  line-on (good ps) y h = tt
+  line-on (bad x z) y h = h
+
+pub still-read : StillRead
+still-read s r e = go (rules s)
+  where
+    go : Rules s (readItem s) (olderItem s) → olderItem s ≡ good r
+    go (early x y h n o) = bad-good x y r (sym n ∙ e)
+    go (line c k n o) =
+        let g = line-good c k (read (layoutOf c) s 2) r (sym n ∙ e) .0 in
+        o ∙ ap (λ (a : Checked (List Part)). then a (item c k)) (fields.still-read (layoutOf c) s 2 (r .fields) g ∙ sym g) ∙ sym n ∙ e
+
+pub refused-by-order : RefusedByOrder
+refused-by-order s x y e = go (rules s)
+  where
+    go : Rules s (readItem s) (olderItem s) → (x ≡ 15 → GoesOn y (olderItem s)) × ((x ≡ 15 → ⊥) → olderItem s ≡ bad x y)
+    go (early u v h n o) = let q = same-number u x v y (sym n ∙ e) in ((λ z. absurd (h (sym q ∙ z))), λ z. o ∙ sym n ∙ e)
+    go (line c k n o) =
+        let b = line-bad c k (read (layoutOf c) s 2) x y (sym n ∙ e) in
+        let f = fields.refused-by-order (layoutOf c) s 2 x y b in
+        ((λ z. rw o (line-on c k (read (map unordered (layoutOf c)) s 2) y (f .0 z))), λ z. rw (o, f .1 z))
+
+pub read-by-order : ReadByOrder
+read-by-order s r bs e = go (rules s)
+  where
+    go : Rules s (readItem s) (olderItem s) → (readItem s ≡ good r) ↔ InOrder (layoutOf (r .case)) s (r .fields)
+    go (early x y h n o) = bad-good x y r (sym o ∙ e)
+    go (line c k n o) =
+        let g = line-good c k (read (map unordered (layoutOf c)) s 2) r (sym o ∙ e) in
+        let f = sorted.read-by-order (layoutOf c) s 2 (r .fields) bs (g .0) in (
+          (λ z. rw (g .1) (f .0 (line-good c k (read (layoutOf c) s 2) r (sym n ∙ z) .0))),
+          λ i. n ∙ ap (λ (a : Checked (List Part)). then a (item c k)) (f .1 (rw (g .1) at i) ∙ sym (g .0)) ∙ sym o ∙ e,
+        )
