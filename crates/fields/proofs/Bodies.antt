@@ -14,10 +14,8 @@ use Rattle.fields.specs.declared.layout.Step.{Step}
 use Rattle.fields.specs.declared.layout.Step.the-variants.{Size, Not}
 use Rattle.fields.specs.declared.layout.Inside.the-variants.{Fine, Wrong}
 use Rattle.fields.specs.Layout.{element, elements, insideFrom, inside, past}
+use Rattle.fields.proofs.Answers.{wrong-fine}
 use Rattle.fields.specs.Write.{prefixed, stripped, wrap, unwrap, bodySize, wholes}
-
-wrong-fine : {A : Type 0} (x y : ℕ) → Wrong x y ≡ Fine → A
-wrong-fine x y e = absurd (let z : _≡_ {A = ℕ} 0 1 = cc in omega arith)
 
 not-size : {A : Type 0} (x n t : ℕ) → Not x ≡ Size n t → A
 not-size x n t e = absurd (let z : _≡_ {A = ℕ} 0 1 = cc in omega arith)

@@ -22,6 +22,7 @@ use Rattle.fields.specs.declared.layout.Inside.the-variants.{Fine, Wrong
 use Rattle.fields.specs.Layout.{outOfOrder, element, elements, insideFrom, inside, past}
 use Rattle.fields.specs.Claims.{Each}
 use Rattle.fields.specs.Extensions.{Extension, Fits, extensionBytes, listBytes, Ascending, Asked, Extended, OutOfOrder, FineIsExtended, OneList, FifteenIsOutOfOrder}
+use Rattle.fields.proofs.Answers.{wrong-fine, same-wrong}
 use Rattle.fields.proofs.Elements.{inside-none, inside-bad, inside-more}
 use Rattle.fields.proofs.Vectors.{bytes-take, bytes-drop}
 
@@ -260,9 +261,6 @@ list-last [] x rest = ap (λ (a : List ℕ). a ++ rest) (append-nil (extensionBy
 list-last (y ∷ xs) x rest =
     list-more y (xs ++ (x ∷ [])) rest ∙ ap (λ (a : List ℕ). extensionBytes y ++ a) (list-last xs x rest) ∙ sym (list-more y xs (extensionBytes x ++ rest))
 
-wrong-fine : {A : Type 0} (x y : ℕ) → Wrong x y ≡ Fine → A
-wrong-fine x y e = absurd (let z : _≡_ {A = ℕ} 0 1 = cc in omega arith)
-
 fine-from : (o : Order) (xs : List Extension) (at : ℕ) → Each Fits xs → From o 0 xs → (b : List ℕ) → b ≡ listBytes xs → inside (ExtensionList o) b at ≡ Fine
 unfolding inside
 fine-from o xs at f h b e =
@@ -282,9 +280,6 @@ fine-is-extended o b at bs = (λ e. go (inside (ExtensionList o) b at) e (inside
     back x = fine-from o (x .list) at (x .fit) (asked-from o (x .list) (x .asked)) b (x .bytes)
 
 -- 15 stands exactly where the first extension starts that is not above all before it
-same-wrong : (x y p q : ℕ) → Wrong x p ≡ Wrong y q → (x ≡ y) × (p ≡ q)
-same-wrong x y p q e = (cc, cc)
-
 out-from : (xs : List Extension) (it : Extension) (rest : List ℕ) (at : ℕ) → Each Fits xs → Fits it → From Ordered 0 xs → outOfOrder Ordered (after 0 xs) (it .extensionType) ≡ true → (b : List ℕ) → b ≡ listBytes xs ++ (extensionBytes it ++ rest) → inside (ExtensionList Ordered) b at ≡ Wrong 15 (at + length (listBytes xs))
 unfolding inside
 out-from xs it rest at f g h w b e =

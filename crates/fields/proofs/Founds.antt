@@ -71,7 +71,7 @@ pub found-after : (f : Field) (r : List ℕ) (at : ℕ) (p : Part) → field f r
 found-after (Uint w) r at p e = let h = found-number (widthOf w) r at p e in rw (h .0) (omega arith)
 found-after (Vector w least most i) r at p e = let h = found-vector (widthOf w) least most i r at p e in rw (h .is) (omega arith)
 
-found-bad : {A : Type 0} (x y : ℕ) (p : Part) → Found p ≡ Bad x y → A
+pub found-bad : {A : Type 0} (x y : ℕ) (p : Part) → Found p ≡ Bad x y → A
 found-bad x y p e = absurd (let z : _≡_ {A = ℕ} 0 1 = cc in omega arith)
 
 same-place : (x y p q : ℕ) → Bad x p ≡ Bad y q → q ≡ p

@@ -25,7 +25,7 @@ use Rattle.fields.specs.declared.layout.Inside.the-variants.{Fine, Wrong
 use Rattle.fields.specs.Checked.{Checked, good, bad}
 use Rattle.fields.specs.Layout.{outOfOrder, element, elements, insideFrom, inside, past, whole, numberAt, vectorAt, field, next, push, read}
 use Rattle.fields.specs.Extensions.{anyOrder, unordered, GoesOn, StillRead, RefusedByOrder}
-use Rattle.fields.proofs.Answers.{bad-good, good-bad, same-good, same-place, same-number}
+use Rattle.fields.proofs.Answers.{bad-good, good-bad, same-place, same-number, wrong-fine, same-wrong}
 use Rattle.fields.proofs.Elements.{element-size}
 use Rattle.fields.proofs.Places.{elements-place}
 use Rattle.fields.proofs.Within.{refused-behind}
@@ -89,6 +89,22 @@ elements-bodies (suc n) i last r at = go (eqb (length r) 0) refl (element-steps 
         let some : 0 < length r = omega (arith, eqb-false (length r) 0 hb) in
         let z = element-size (anyOrder i) last r m t some o in
         rw (e, o) (ordered at (omega arith) refl (behind-inside (elements n (anyOrder i) t (drop m r) (at + m)) at (λ x q w. omega (arith, z .0, elements-place n (anyOrder i) t (drop m r) (at + m) x q w .0))))
+
+-- an inner list that asks for no order never gives 15
+pub fifteen-asked : (i : Inner) (r : List ℕ) (at y : ℕ) → anyOrder i ≡ i → inside i r at ≡ Wrong 15 y → ⊥
+unfolding inside insideFrom
+fifteen-asked i r at y h e = go (elements-bodies (length r) i 0 r at)
+  where
+    older : elements (length r) (anyOrder i) 0 r at ≡ Wrong 15 y
+    older = rw h e
+
+    go : Bodies (at + length r) (elements (length r) i 0 r at) (elements (length r) (anyOrder i) 0 r at) → ⊥
+    go (fine n o) = let z : _≡_ {A = ℕ} 0 1 = wrong-fine 15 y (sym e ∙ n) in omega arith
+    go (wrong x p g n o) = g (same-wrong x 15 p y (sym n ∙ e) .0)
+    go (ordered p l n o) =
+        let q = same-wrong 15 15 p y (sym n ∙ e) .1 in
+        let b : BehindInside p (Wrong 15 y) = rw older at o in
+        omega (arith, b)
 
 -- one field
 abbrev BehindField : ℕ → FieldRead → Type 0

@@ -60,6 +60,12 @@ elements-place (suc n) i last r at x p e = go (eqb (length r) 0) refl (element i
         let l = less m t e in
         (omega (arith, l .0), omega (arith, l .1, length-drop m r, element-size i last r m t some hy))
 
+-- nothing is refused in a body without a byte
+pub inside-some : (i : Inner) (r : List ℕ) (at x p : ℕ) → inside i r at ≡ Wrong x p → 0 < length r
+unfolding inside insideFrom elements
+inside-some i [] at x p e = fine-wrong x p e
+inside-some i (b ∷ r) at x p e = omega arith
+
 pub inside-place : (i : Inner) (r : List ℕ) (at x p : ℕ) → inside i r at ≡ Wrong x p → (at ≤ p) × (p ≤ at + length r)
 unfolding inside insideFrom
 inside-place i r at x p e = elements-place (length r) i 0 r at x p e

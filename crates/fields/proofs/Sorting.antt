@@ -5,17 +5,17 @@ use mathlib.Core.List.{List, [], _∷_, _++_, map, append-assoc}
 use mathlib.Core.Bool.{Bool, true, false, cond}
 use Prim.Native.Nat.{ℕ, _+_, _-_, _^_, _≤_, _<_}
 use native.Mathlib.Omega.{arith}
-use lib.ListN.{length, take, drop, length-append}
+use lib.ListN.{length, take, drop, length-append, length-drop}
 use lib.Dec.{ltb}
-use lib.Seq.{take-at, drop-at, drop-drop}
-use borrow.Author.Tests.{le-ltb}
+use lib.Seq.{take-at, drop-at, drop-drop, length-take-le}
+use borrow.Author.Tests.{le-ltb, ltb-false}
 use Rattle.octets.specs.Bytes.{Bytes}
 use Rattle.octets.specs.Numbers.{widthOf, be, unbe}
 use Rattle.octets.specs.declared.number.Width.{Width}
 use Rattle.octets.proofs.Numbers.{be-length, unbe-be}
 use Rattle.fields.specs.declared.layout.Part.{Part}
 use Rattle.fields.specs.declared.layout.Order.{Order}
-use Rattle.fields.specs.declared.layout.Order.the-variants.{Unordered}
+use Rattle.fields.specs.declared.layout.Order.the-variants.{Ordered, Unordered}
 use Rattle.fields.specs.declared.layout.Inner.{Inner}
 use Rattle.fields.specs.declared.layout.Inner.the-variants.{Opaque, ExtensionList, NodeList}
 use Rattle.fields.specs.declared.layout.Field.{Field}
@@ -25,13 +25,15 @@ use Rattle.fields.specs.declared.layout.FieldRead.the-variants.{Found, B
 use Rattle.fields.specs.declared.layout.Inside.{Inside}
 use Rattle.fields.specs.declared.layout.Inside.the-variants.{Fine, Wrong}
 use Rattle.fields.specs.Checked.{Checked, good, bad}
-use Rattle.fields.specs.Layout.{inside, vectorAt, field, whole, next, push, read, bytesAt}
+use Rattle.fields.specs.Layout.{inside, numberAt, vectorAt, field, whole, next, push, read, bytesAt}
 use Rattle.fields.specs.Write.{wrap, bodySize, wholes, vectorFilled, vectorBytes, fine}
-use Rattle.fields.specs.Extensions.{Extended, unordered, FieldInOrder, InOrder, ReadByOrder, RefusedAsRead}
-use Rattle.fields.proofs.Answers.{bad-good, good-bad, same-good}
-use Rattle.fields.proofs.Founds.{FoundVector, found-vector}
+use Rattle.fields.specs.Extensions.{Extended, OutOfOrder, unordered, FifteenInList, ListOutOfOrder, FieldInOrder, InOrder, ReadByOrder, RefusedAsRead}
+use Rattle.fields.proofs.Answers.{bad-good, good-bad, same-good, same-place, same-number}
+use Rattle.fields.proofs.Places.{inside-some}
+use Rattle.fields.proofs.Founds.{FoundVector, found-vector, found-bad}
 use Rattle.fields.proofs.Vectors.{bytes-take, bytes-drop}
-use Rattle.fields.proofs.Extending.{fine-is-extended}
+use Rattle.fields.proofs.Extending.{fine-is-extended, fifteen-is-out-of-order}
+use Rattle.fields.proofs.Ordering.{fifteen-asked}
 
 -- the body of a vector of extensions that was found, and a vector whose body is fine
 module _ (w least most : ℕ) (o : Order) (s : List ℕ) (at : ℕ) (p : Part) (bs : Bytes s) where
@@ -55,6 +57,14 @@ module _ (w least most : ℕ) (o : Order) (s : List ℕ) (at : ℕ) (p : Part) (
       let h = found-vector w least most (ExtensionList Unordered) (drop at s) at p e in
       let f = fine-is-extended o body (at + w) body-bytes .1 (subst (Extended o) (body-at h) x) in
       rw (le-ltb _ _ (h .prefix), le-ltb _ _ (h .low), le-ltb _ _ (h .high), le-ltb _ _ (h .room), f) (ap Found (sym (h .is)))
+
+number-refused-2 : (w : ℕ) (r : List ℕ) (at x y : ℕ) → numberAt w r at ≡ Bad x y → x ≡ 2
+unfolding numberAt
+number-refused-2 w r at x y e = go (ltb (length r) w) e
+  where
+    go : (b : Bool) → cond b (Bad 2 at) (Found (record { start = at; len = w; value = unbe (take w r) })) ≡ Bad x y → x ≡ 2
+    go true e = cc
+    go false e = found-bad x y _ e
 
 field-in-order : (f : Field) (s : List ℕ) (at : ℕ) (p : Part) → Bytes s → field f (drop at s) at ≡ Found p → FieldInOrder f s p
 field-in-order (Uint w) s at p bs e = tt
@@ -105,6 +115,67 @@ in-order-read (f ∷ fs) s at ps bs e x = go (field (unordered f) (drop at s) at
 pub read-by-order : ReadByOrder
 read-by-order fs s at ps bs e = (read-in-order fs s at ps bs, in-order-read fs s at ps bs e)
 
+-- 15 stands in a list of extensions
+fifteen-order : (i : Inner) (b : List ℕ) (at y : ℕ) → Bytes b → inside i b at ≡ Wrong 15 y → OutOfOrder b at y
+fifteen-order Opaque b at y bs e = absurd (fifteen-asked Opaque b at y refl e)
+fifteen-order (ExtensionList Ordered) b at y bs e = fifteen-is-out-of-order b at y bs .0 e
+fifteen-order (ExtensionList Unordered) b at y bs e = absurd (fifteen-asked (ExtensionList Unordered) b at y refl e)
+fifteen-order NodeList b at y bs e = absurd (fifteen-asked NodeList b at y refl e)
+
+vector-fifteen : (w least most : ℕ) (i : Inner) (s : List ℕ) (at y : ℕ) → Bytes s → vectorAt w least most i (drop at s) at ≡ Bad 15 y → ListOutOfOrder s y
+unfolding vectorAt
+vector-fifteen w least most i s at y bs e =
+    go (ltb (length r) w) (ltb n least) (ltb most n) (ltb (length r - w) n) (inside i (take n (drop w r)) (at + w)) refl refl refl e
+  where
+    r : List ℕ
+    r = drop at s
+
+    n : ℕ
+    n = unbe (take w r)
+
+    other : {A : Type 0} (x p : ℕ) → (x ≡ 15 → ⊥) → Bad x p ≡ Bad 15 y → A
+    other x p h e = let z : x ≡ 15 = cc in absurd (h z)
+
+    go : (a b c d : Bool) (z : Inside) → ltb (length r) w ≡ a → ltb (length r - w) n ≡ d → inside i (take n (drop w r)) (at + w) ≡ z → cond a (Bad 2 at) (cond b (Bad 5 at) (cond c (Bad 5 at) (cond d (Bad 2 at) (whole z (record { start = at + w; len = n; value = n }))))) ≡ Bad 15 y → ListOutOfOrder s y
+    go true b c d z ha hd hz e = other 2 at (λ q. omega arith) e
+    go false true c d z ha hd hz e = other 5 at (λ q. omega arith) e
+    go false false true d z ha hd hz e = other 5 at (λ q. omega arith) e
+    go false false false true z ha hd hz e = other 2 at (λ q. omega arith) e
+    go false false false false Fine ha hd hz e = found-bad 15 y _ e
+    go false false false false (Wrong x p) ha hd hz e =
+        let ex : x ≡ 15 = cc in
+        let ep : p ≡ y = cc in
+        let o = fifteen-order i (take n (drop w r)) (at + w) y (bytes-take n (bytes-drop w (bytes-drop at bs))) (hz ∙ rw (ex, ep)) in
+        let some = inside-some i (take n (drop w r)) (at + w) x p hz in
+        let taken : length (take n (drop w r)) ≡ n = length-take-le n (drop w r) (rw (length-drop w r) (ltb-false _ _ hd)) in
+        record {
+          start = at + w;
+          len = n;
+          within = omega (arith, ltb-false (length r) w ha, ltb-false (length r - w) n hd, length-drop at s);
+          out = subst (λ (b : List ℕ). OutOfOrder b (at + w) y) (ap (take n) (drop-drop w at s)) o;
+        }
+
+pub fifteen-in-list : FifteenInList
+unfolding read
+fifteen-in-list [] s at y bs e = go (ltb at (length s)) e
+  where
+    go : (b : Bool) → _≡_ {A = Checked (List Part)} (cond b (bad 3 at) (good [])) (bad 15 y) → ListOutOfOrder s y
+    go true e = absurd (let z = same-number 3 15 at y e in omega arith)
+    go false e = good-bad 15 y _ e
+fifteen-in-list (f ∷ fs) s at y bs e = go (field f (drop at s) at) refl e (λ p. fifteen-in-list fs s (p .start + p .len) y bs)
+  where
+    one : (f : Field) → field f (drop at s) at ≡ Bad 15 y → ListOutOfOrder s y
+    one (Uint w) h = absurd (let z = number-refused-2 (widthOf w) (drop at s) at 15 y h in omega arith)
+    one (Vector w least most i) h = vector-fifteen (widthOf w) least most i s at y bs h
+
+    go : (z : FieldRead) → field f (drop at s) at ≡ z → next z (λ p. push p (read fs s (p .start + p .len))) ≡ bad 15 y → ((p : Part) → read fs s (p .start + p .len) ≡ bad 15 y → ListOutOfOrder s y) → ListOutOfOrder s y
+    go (Bad u v) hz e less = let a = same-number u 15 v y e in let b = same-place u 15 v y e in one f (hz ∙ ap₂ Bad (sym a) (sym b))
+    go (Found p) hz e less = more (read fs s (p .start + p .len)) refl e
+      where
+        more : (a : Checked (List Part)) → read fs s (p .start + p .len) ≡ a → push p a ≡ bad 15 y → ListOutOfOrder s y
+        more (good qs) ha e = good-bad 15 y _ e
+        more (bad u v) ha e = less p (rw ha e)
+
 -- the writer and the reader of what it would write
 module _ (w least most : ℕ) (o : Order) (v rest : List ℕ) (at : ℕ) (fit : length v < 256 ^ w) where
   abbrev n : ℕ
@@ -147,16 +218,13 @@ module _ (w least most : ℕ) (o : Order) (v rest : List ℕ) (at : ℕ) (fit : 
       go false false Fine e = good-bad x y b e
       go false false (Wrong u z) e = same u z e
 
-      found-bad : {A : Type 0} → Found p ≡ Bad x y → A
-      found-bad e = absurd (let z : _≡_ {A = ℕ} 0 1 = cc in omega arith)
-
       other : (u z : ℕ) → Bad u z ≡ Bad x y → _≡_ {A = Checked (List ℕ)} (bad u z) (bad x y)
       other u z e = cc
 
       back : (c d : Bool) (i : Inside) → cond c (Bad 5 at) (cond d (Bad 5 at) (whole i p)) ≡ Bad x y → cond c (bad 5 at) (cond d (bad 5 at) (fine i b)) ≡ bad x y
       back true d i e = other 5 at e
       back false true i e = other 5 at e
-      back false false Fine e = found-bad e
+      back false false Fine e = found-bad x y p e
       back false false (Wrong u z) e = other u z e
 
 pub refused-as-read : RefusedAsRead

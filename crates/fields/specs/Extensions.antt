@@ -1,9 +1,9 @@
 -- Extensions as RFC 9162 has them (sections 4.6 and 4.8), and what is claimed of lists of them and of their order: proved in proofs/. Assumes nothing.
-use Prim.Native.Nat.{ℕ, _+_, _^_, _<_}
+use Prim.Native.Nat.{ℕ, _+_, _^_, _≤_, _<_}
 use mathlib.Core.Path.{_≡_}
 use mathlib.Core.Logic.{_↔_, _≢_}
 use mathlib.Core.List.{List, [], _∷_, _++_, map}
-use lib.ListN.{length}
+use lib.ListN.{length, take, drop}
 use Rattle.octets.specs.Bytes.{Bytes, joined}
 use Rattle.octets.specs.Numbers.{widthOf, be}
 use Rattle.octets.specs.declared.number.Width.{Width}
@@ -99,6 +99,16 @@ abbrev pub RefusedByOrder : Type 0
 RefusedByOrder =
     (fs : List Field) (s : List ℕ) (at x y : ℕ) → read fs s at ≡ bad x y
     → (x ≡ 15 → GoesOn y (read (map unordered fs) s at)) × (x ≢ 15 → read (map unordered fs) s at ≡ bad x y)
+
+-- 15 stands in a list of extensions, where the first one starts that is out of order
+pub record ListOutOfOrder (s : List ℕ) (y : ℕ) : Type 0 where
+  pub start : ℕ
+  pub len : ℕ
+  pub within : start + len ≤ length s
+  pub out : OutOfOrder (take len (drop start s)) start y
+
+abbrev pub FifteenInList : Type 0
+FifteenInList = (fs : List Field) (s : List ℕ) (at y : ℕ) → Bytes s → read fs s at ≡ bad 15 y → ListOutOfOrder s y
 
 -- every list of extensions among the fields is in the order that its field asks
 abbrev pub BodyInOrder : Inner → List ℕ → Type 0

@@ -11,7 +11,8 @@ pub mod writing;
 
 ghost use Rattle.fields.specs.Claims.{ReadThenFilled, FilledThenRead, LayoutAgain, LayoutBack, FieldsWithin, RefusedWithin, FoundBefore};
 ghost use Rattle.fields.specs.Claims.{CopiedIsJoined, JoinedIsCopied, CopyKeeps};
-ghost use Rattle.fields.specs.Extensions.{FineIsExtended, OneList, FifteenIsOutOfOrder, StillRead, RefusedByOrder, ReadByOrder, RefusedAsRead};
+ghost use Rattle.fields.specs.Extensions.{FineIsExtended, OneList, FifteenIsOutOfOrder, StillRead, RefusedByOrder, FifteenInList};
+ghost use Rattle.fields.specs.Extensions.{ReadByOrder, RefusedAsRead};
 
 // What is proved of fields and layouts beside the functions' own promises. It does nothing.
 pub fn claims()
@@ -30,6 +31,7 @@ pub fn claims()
     ensures fifteen_is_out_of_order { λ _. ⌜ FifteenIsOutOfOrder ⌝ }
     ensures still_read { λ _. ⌜ StillRead ⌝ }
     ensures refused_by_order { λ _. ⌜ RefusedByOrder ⌝ }
+    ensures fifteen_in_list { λ _. ⌜ FifteenInList ⌝ }
     ensures read_by_order { λ _. ⌜ ReadByOrder ⌝ }
     ensures refused_as_read { λ _. ⌜ RefusedAsRead ⌝ }
 {}

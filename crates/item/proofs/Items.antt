@@ -249,12 +249,14 @@ module _ (s : List ℕ) (k : ℕ) (ps : List Part) where
   gives Inclusion = record { numbers = numbers 0 (n 1) 0 0 (n 2) 0 0; vectors = vectors (v 0) [] [] [] [] [] (path 3) []; given = (refl, refl) }
   gives Page = record { numbers = numbers (n 0) 0 0 0 0 (n 1) (n 2); vectors = vectors [] [] [] [] [] [] [] (v 3); given = (refl, refl) }
 
+-- as many parts as there are, by their places
+pub all-firsts : (n : ℕ) (ps : List Part) → length ps ≡ n → firsts n ps ≡ ps
+all-firsts n ps l = sym (take-firsts n ps (omega arith)) ∙ take-all n ps (omega arith)
+
 -- whatever is read can be written again
 pub read-gives : ReadGives
 read-gives s r e =
     let h = was-read s r e in
     let c = r .case in
     let l : length (r .fields) ≡ length (namesOf c) = read-count (layoutOf c) s 2 (r .fields) (h .fields) ∙ layout-length c in
-    let f : firsts (length (namesOf c)) (r .fields) ≡ r .fields =
-    sym (take-firsts (length (namesOf c)) (r .fields) (omega arith)) ∙ take-all (length (namesOf c)) (r .fields) (omega arith) in
-    subst (λ (ps : List Part). Gives s (record { case = c; kind = r .kind; fields = ps })) f (gives s (r .kind) (r .fields) c)
+    subst (λ (ps : List Part). Gives s (record { case = c; kind = r .kind; fields = ps })) (all-firsts (length (namesOf c)) (r .fields) l) (gives s (r .kind) (r .fields) c)

@@ -5,23 +5,30 @@ use mathlib.Core.List.{List, [], _∷_, map}
 use mathlib.Core.Bool.{Bool, true, false, cond}
 use Prim.Native.Nat.{ℕ}
 use native.Mathlib.Omega.{arith}
-use lib.ListN.{length, take}
+use lib.ListN.{length, take, length-map}
 use lib.Dec.{ltb, eqb}
 use Rattle.octets.specs.Bytes.{Bytes}
 use Rattle.octets.specs.Limits.{mostItem}
 use Rattle.octets.specs.Numbers.{unbe}
 use Rattle.fields.specs.declared.layout.Part.{Part}
 use Rattle.fields.specs.declared.layout.Field.{Field}
+use Rattle.fields.specs.declared.layout.Order.the-variants.{Ordered}
 use Rattle.fields.specs.Checked.{Checked, good, bad, then}
-use Rattle.fields.specs.Layout.{read}
-use Rattle.fields.specs.Extensions.{unordered, GoesOn, InOrder}
+use Rattle.fields.specs.Layout.{read, bytesAt}
+use Rattle.fields.specs.Claims.{Each}
+use Rattle.fields.specs.Extensions.{Extended, unordered, GoesOn, ListOutOfOrder, InOrder}
 use Rattle.fields.proofs.Answers.{bad-good, good-bad, same-good, same-place, same-number}
+use Rattle.fields.proofs.Resuming.{firsts}
+use Rattle.fields.proofs.Within.{read-count}
 use Rattle.fields.proofs.Ordering as fields
 use Rattle.fields.proofs.Sorting as sorted
 use Rattle.item.specs.declared.table.Case.{Case}
-use Rattle.item.specs.Table.{TypeRow, layoutOf, types, find}
+use Rattle.item.specs.declared.table.Case.the-variants.{Entry, Receipt, SignedHead, Consistency, Inclusion, Page}
+use Rattle.item.specs.Table.{TypeRow, namesOf, layoutOf, types, find}
 use Rattle.item.specs.Item.{Reading, item, readBy, readItem}
-use Rattle.item.specs.Claims.{olderItem, StillRead, RefusedByOrder, ReadByOrder}
+use Rattle.item.proofs.Rows.{layout-length}
+use Rattle.item.proofs.Items.{all-firsts}
+use Rattle.item.specs.Claims.{olderItem, StillRead, RefusedByOrder, FifteenInList, extensionsIn, ReadByOrder}
 
 find-number : (rs : List TypeRow) (k x at : ℕ) → find rs k ≡ bad x at → x ≡ 4
 unfolding find
@@ -88,14 +95,35 @@ refused-by-order s x y e = go (rules s)
         let f = fields.refused-by-order (layoutOf c) s 2 x y b in
         ((λ z. rw o (line-on c k (read (map unordered (layoutOf c)) s 2) y (f .0 z))), λ z. rw (o, f .1 z))
 
+pub fifteen-in-list : FifteenInList
+fifteen-in-list s y bs e = go (rules s)
+  where
+    go : Rules s (readItem s) (olderItem s) → ListOutOfOrder s y
+    go (early u v h n o) = absurd (h (sym (same-number u 15 v y (sym n ∙ e))))
+    go (line c k n o) = sorted.fifteen-in-list (layoutOf c) s 2 y bs (line-bad c k (read (layoutOf c) s 2) 15 y (sym n ∙ e))
+
+-- of a line's fields extensions alone have an order
+abbrev Ascend : List ℕ → Case → List Part → Type 0
+Ascend s c ps = Each (λ p. Extended Ordered (bytesAt s p)) (extensionsIn c ps)
+
+in-order : (s : List ℕ) (c : Case) (ps : List Part) → InOrder (layoutOf c) s (firsts (length (namesOf c)) ps) ↔ Ascend s c (firsts (length (namesOf c)) ps)
+in-order s Entry ps = ((λ i. (i .1 .1 .1 .0, tt)), λ i. (tt, (tt, (tt, (i .0, tt)))))
+in-order s Receipt ps = ((λ i. (i .1 .1 .0, tt)), λ i. (tt, (tt, (i .0, (tt, tt)))))
+in-order s SignedHead ps = ((λ i. (i .1 .1 .1 .1 .0, tt)), λ i. (tt, (tt, (tt, (tt, (i .0, (tt, tt)))))))
+in-order s Consistency ps = ((λ i. tt), λ i. (tt, (tt, (tt, (tt, tt)))))
+in-order s Inclusion ps = ((λ i. tt), λ i. (tt, (tt, (tt, (tt, tt)))))
+in-order s Page ps = ((λ i. tt), λ i. (tt, (tt, (tt, (tt, tt)))))
+
 pub read-by-order : ReadByOrder
 read-by-order s r bs e = go (rules s)
   where
-    go : Rules s (readItem s) (olderItem s) → (readItem s ≡ good r) ↔ InOrder (layoutOf (r .case)) s (r .fields)
+    go : Rules s (readItem s) (olderItem s) → (readItem s ≡ good r) ↔ Ascend s (r .case) (r .fields)
     go (early x y h n o) = bad-good x y r (sym o ∙ e)
     go (line c k n o) =
         let g = line-good c k (read (map unordered (layoutOf c)) s 2) r (sym o ∙ e) in
-        let f = sorted.read-by-order (layoutOf c) s 2 (r .fields) bs (g .0) in (
-          (λ z. rw (g .1) (f .0 (line-good c k (read (layoutOf c) s 2) r (sym n ∙ z) .0))),
-          λ i. n ∙ ap (λ (a : Checked (List Part)). then a (item c k)) (f .1 (rw (g .1) at i) ∙ sym (g .0)) ∙ sym o ∙ e,
+        let f = sorted.read-by-order (layoutOf c) s 2 (r .fields) bs (g .0) in
+        let l : length (r .fields) ≡ length (namesOf c) = read-count (map unordered (layoutOf c)) s 2 (r .fields) (g .0) ∙ length-map (layoutOf c) unordered ∙ layout-length c in
+        let w = subst (λ (ps : List Part). InOrder (layoutOf c) s ps ↔ Ascend s c ps) (all-firsts (length (namesOf c)) (r .fields) l) (in-order s c (r .fields)) in (
+          (λ z. rw (g .1) (w .0 (f .0 (line-good c k (read (layoutOf c) s 2) r (sym n ∙ z) .0)))),
+          λ i. n ∙ ap (λ (a : Checked (List Part)). then a (item c k)) (f .1 (w .1 (rw (g .1) at i)) ∙ sym (g .0)) ∙ sym o ∙ e,
         )

@@ -7,13 +7,14 @@ use lib.ListN.{length, getD, take, drop}
 use denote.Ref.{RefT}
 use Rattle.octets.specs.Bytes.{Bytes}
 use Rattle.fields.specs.declared.layout.Part.{Part}
+use Rattle.fields.specs.declared.layout.Order.the-variants.{Ordered}
 use Rattle.fields.specs.Checked.{Checked, good, bad}
 use Rattle.fields.specs.Layout.{partsFound, bytesAt}
 use Rattle.fields.specs.Write.{values}
 use Rattle.fields.specs.Effect.{wrote}
 use Rattle.fields.specs.Path.{pathAt, copyPath}
 use Rattle.fields.specs.Claims.{Each, PathCopied}
-use Rattle.fields.specs.Extensions.{unordered, GoesOn, InOrder}
+use Rattle.fields.specs.Extensions.{Extended, unordered, GoesOn, ListOutOfOrder}
 use Rattle.fields.specs.Answers.{noPart}
 use Rattle.octets.specs.Numbers.{unbe}
 use Rattle.item.specs.declared.table.Name.the-variants.{Timestamp}
@@ -173,6 +174,21 @@ StillRead = (s : List ℕ) (r : Reading) → readItem s ≡ good r → olderItem
 abbrev pub RefusedByOrder : Type 0
 RefusedByOrder = (s : List ℕ) (x y : ℕ) → readItem s ≡ bad x y → (x ≡ 15 → GoesOn y (olderItem s)) × (x ≢ 15 → olderItem s ≡ bad x y)
 
+-- 15 stands in a list of extensions, where the first one starts that is out of order
+abbrev pub FifteenInList : Type 0
+FifteenInList = (s : List ℕ) (y : ℕ) → Bytes s → readItem s ≡ bad 15 y → ListOutOfOrder s y
+
+-- where the extensions of an item lie, of the lines that have them
+abbrev pub extensionsIn : Case → List Part → List Part
+extensionsIn Entry ps = getD ps 3 noPart ∷ []
+extensionsIn Receipt ps = getD ps 2 noPart ∷ []
+extensionsIn SignedHead ps = getD ps 4 noPart ∷ []
+extensionsIn Consistency ps = []
+extensionsIn Inclusion ps = []
+extensionsIn Page ps = []
+
 -- what the older rule accepted is accepted now exactly if its extensions are in strictly ascending order (RFC 9162, section 4.8)
 abbrev pub ReadByOrder : Type 0
-ReadByOrder = (s : List ℕ) (r : Reading) → Bytes s → olderItem s ≡ good r → (readItem s ≡ good r) ↔ InOrder (layoutOf (r .case)) s (r .fields)
+ReadByOrder =
+    (s : List ℕ) (r : Reading) → Bytes s → olderItem s ≡ good r
+    → (readItem s ≡ good r) ↔ Each (λ p. Extended Ordered (bytesAt s p)) (extensionsIn (r .case) (r .fields))

@@ -9,7 +9,8 @@ mod table;
 mod writer;
 
 ghost use Rattle.item.specs.Claims.{ReadThenWritten, ReadGives, WrittenThenRead, WriterKeeps, RefusedWithin, FieldsWithin, EmptyIsNeither};
-ghost use Rattle.item.specs.Claims.{NamesItsField, PathIsSaid, TakenThenWritten, WrittenThenTaken, StillRead, RefusedByOrder, ReadByOrder};
+ghost use Rattle.item.specs.Claims.{NamesItsField, PathIsSaid, TakenThenWritten, WrittenThenTaken};
+ghost use Rattle.item.specs.Claims.{StillRead, RefusedByOrder, FifteenInList, ReadByOrder};
 pub use heads::newer;
 pub use reader::Item;
 pub use reader::read;
@@ -33,5 +34,6 @@ pub fn claims()
     ensures written_then_taken { λ _. ⌜ WrittenThenTaken ⌝ }
     ensures still_read { λ _. ⌜ StillRead ⌝ }
     ensures refused_by_order { λ _. ⌜ RefusedByOrder ⌝ }
+    ensures fifteen_in_list { λ _. ⌜ FifteenInList ⌝ }
     ensures read_by_order { λ _. ⌜ ReadByOrder ⌝ }
 {}
