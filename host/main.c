@@ -154,15 +154,24 @@ static void writes(const char *what, const uint8_t *log, size_t log_length, size
     holds_true("the extra byte's place", place == ITEM);
 }
 
+/* A receipt with two empty extensions: 13 bytes, their vector's length in 2, four bytes each, a signature. */
+static void orders(uint8_t first, uint8_t second, uint32_t want, uint64_t want_place)
+{
+    const uint8_t receipt[] = {1, 2, 2, 42, 3, 0, 0, 0, 0, 0, 0, 0, 5, 0, 8, 0, first, 0, 0, 0, second, 0, 0, 0, 1, 's'};
+    uint64_t place = ODD;
+    expect("two extensions", mta_item(receipt, sizeof receipt, &place), want);
+    holds_true("two extensions' place", place == want_place);
+}
+
 /* Every number has words, and no two of the table have the same. */
 static void words(void)
 {
-    for (uint32_t n = MTA_OK; n <= MTA_NO_HEAD + 1; n++) {
+    for (uint32_t n = MTA_OK; n <= MTA_ORDER + 1; n++) {
         holds_true("words", mta_refusal(n)[0] != 0);
         for (uint32_t m = MTA_OK; m < n; m++)
             holds_true("words of two numbers", strcmp(mta_refusal(n), mta_refusal(m)) != 0);
     }
-    holds_true("words of no number", strcmp(mta_refusal(UINT32_MAX), mta_refusal(MTA_NO_HEAD + 1)) == 0);
+    holds_true("words of no number", strcmp(mta_refusal(UINT32_MAX), mta_refusal(MTA_ORDER + 1)) == 0);
 }
 
 /* These nodes, and then a last one so often that there are so many. */
@@ -306,6 +315,9 @@ int main(void)
     writes("a log id of one byte", log, 1, 0, 23, MTA_LENGTH);
     writes("half a node in an item", log, sizeof log, 31, 56, MTA_JOINED);
     writes("an item too long for its buffer", log, sizeof log, 0, 22, MTA_ROOM);
+    orders(1, 2, MTA_OK, 0);
+    orders(1, 1, MTA_ORDER, 19);
+    orders(2, 1, MTA_ORDER, 19);
 
     past_32_bits(a, b);
     largest_size(last3, d, g, k);

@@ -44,10 +44,11 @@ enum {
     MTA_ROOT = 8,        /* a root disagrees */
     MTA_ROOM = 9,        /* a lent output or working buffer is too short, or the schedule isn't 64 words */
     MTA_JOINED = 10,     /* joined hashes not a multiple of 32, or leaves over the limit */
-    MTA_OTHER_LOG = 11,  /* other log; from here on numbers of the auditor, which no function below gives */
+    MTA_OTHER_LOG = 11,  /* other log; 11 to 14 are numbers of the auditor, which no function below gives */
     MTA_EARLIER = 12,    /* earlier timestamp, or the same with another size or root */
     MTA_OTHER_ROOT = 13, /* same size, other root */
-    MTA_NO_HEAD = 14     /* no head yet */
+    MTA_NO_HEAD = 14,    /* no head yet */
+    MTA_ORDER = 15       /* extensions not in order */
 };
 
 /* A number in words; every number has some. */
@@ -69,6 +70,7 @@ static inline const char *mta_refusal(uint32_t number)
     case MTA_EARLIER: return "earlier timestamp, or the same with another size or root";
     case MTA_OTHER_ROOT: return "same size, other root";
     case MTA_NO_HEAD: return "no head yet";
+    case MTA_ORDER: return "extensions not in order";
     default: return "no number of a refusal";
     }
 }
@@ -113,7 +115,8 @@ uint32_t mta_root(const uint8_t *leaves, size_t leaves_len, uint8_t *MTA_RESTRIC
 
 /* Reads an item (RFC 9162, sections 4.5 to 4.12). After MTA_OK *place is 0. After a refusal it is where
  * the field or inner element at fault starts, of MTA_EXTRA the first extra byte, and of MTA_LONG 0.
- * Refusals: MTA_LONG (over 33,554,432 bytes), then left to right MTA_CUT, MTA_TYPE, MTA_LENGTH, MTA_EXTRA. */
+ * Refusals: MTA_LONG (over 33,554,432 bytes), then left to right MTA_CUT, MTA_TYPE, MTA_LENGTH, MTA_ORDER (an
+ * extension whose type is not above the one before it; MTA_CUT of its own comes first), MTA_EXTRA. */
 uint32_t mta_item(const uint8_t *item, size_t item_len, uint64_t *MTA_RESTRICT place);
 
 /* Writes a consistency item (type 0x0105) from a log id of 2 to 127 bytes, two sizes and a joined path.
