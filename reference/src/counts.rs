@@ -2,31 +2,20 @@
 //! numbers, in the papers' range and out of it, and each answer compared with
 //! the recursive count as it comes.
 
+use crate::pipe::{compare_all, Question};
 use crate::proofs::next_to_powers;
 use crate::random::Random;
 use crate::yields::{inclusion_count, subproof_count};
-use std::io::{self, BufRead, BufReader, BufWriter, Error, Read, Write};
-use std::process::{Command, Stdio};
-use std::sync::mpsc::channel;
-use std::thread;
-use std::time::Duration;
+use std::io::{self, Write};
 
 /// All pairs up to this number.
 const SMALL: u64 = 2_000;
 /// So many random pairs.
 const RANDOM: u64 = 1_000_000;
-/// So many programs are asked at once, each a part of the pairs: the program
-/// takes longer to answer than we to compare.
-const PARTS: usize = 2;
-/// The bytes that are written, and read if there are so many, at once.
-const BLOCK: usize = 1 << 16;
-/// A line of more bytes is no count.
-const LONGEST_ANSWER: u64 = 32;
-const PATIENCE: Duration = Duration::from_secs(300);
 
 /// What is asked of a pair: the entry, its words behind the pair, and the count.
 type Asked = (&'static str, &'static str, fn(u64, u64) -> usize);
-const ASKED: [Asked; 3] = [
+static ASKED: [Asked; 3] = [
     ("inclusion_count", "", inclusion_count),
     ("subproof_count", " 1", |m, n| subproof_count(m, n, true)),
     ("subproof_count", " 0", |m, n| subproof_count(m, n, false)),
@@ -46,116 +35,28 @@ fn pairs(seed: u64) -> impl Iterator<Item = (u64, u64)> + Clone {
     small.chain(next).chain(any)
 }
 
-fn write_requests(pairs: impl Iterator<Item = (u64, u64)>, mut out: impl Write) -> io::Result<()> {
-    for (m, n) in pairs {
-        for (name, words, _) in ASKED {
-            writeln!(out, "{name} {m} {n}{words}")?;
-        }
+/// One of what is asked of a pair.
+struct Count(u64, u64, &'static Asked);
+
+impl Question for Count {
+    fn request(&self, line: &mut Vec<u8>) {
+        let Count(m, n, (name, words, _)) = self;
+        writeln!(line, "{name} {m} {n}{words}").unwrap();
     }
-    out.flush()
-}
 
-/// Answers that gather before they are read: to be woken for each costs both
-/// sides more than the answer.
-struct Gathered<R>(R);
-
-impl<R: Read> Read for Gathered<R> {
-    fn read(&mut self, block: &mut [u8]) -> io::Result<usize> {
-        thread::sleep(Duration::from_millis(2));
-        self.0.read(block)
+    fn answer(&self, line: &mut Vec<u8>) {
+        let Count(m, n, (_, _, count)) = self;
+        writeln!(line, "{}", count(*m, *n)).unwrap();
     }
 }
 
-#[derive(Default)]
-struct Tally {
-    passed: u64,
-    failed: u64,
-    /// The first few that failed.
-    shown: Vec<String>,
-}
-
-impl Tally {
-    fn fail(&mut self, what: impl FnOnce() -> String) {
-        self.failed += 1;
-        if self.shown.len() < 5 {
-            self.shown.push(what());
-        }
-    }
-}
-
-/// One answer for each request of the pairs: none may be wrong, be missing or be left over.
-fn compare(pairs: impl Iterator<Item = (u64, u64)>, mut answers: impl BufRead) -> Tally {
-    let mut tally = Tally::default();
-    let (mut answer, mut expected) = (Vec::new(), Vec::new());
-    let mut next = |answer: &mut Vec<u8>| {
-        answer.clear();
-        answers.by_ref().take(LONGEST_ANSWER).read_until(b'\n', answer).is_ok_and(|length| length > 0)
-    };
-    for (m, n) in pairs {
-        for (name, words, count) in ASKED {
-            if !next(&mut answer) {
-                tally.fail(|| format!("{name} {m} {n}{words}: no answer"));
-                return tally;
-            }
-            expected.clear();
-            writeln!(expected, "{}", count(m, n)).unwrap();
-            if answer == expected {
-                tally.passed += 1;
-            } else {
-                let shown = |line: &[u8]| String::from_utf8_lossy(line).into_owned();
-                tally.fail(|| format!("{name} {m} {n}{words}: answered {:?}, expected {:?}", shown(&answer), shown(&expected)));
-            }
-        }
-    }
-    if next(&mut answer) {
-        tally.fail(|| "more than an answer for each request".to_string());
-    }
-    tally
-}
-
-/// Starts the program and asks it of the pairs.
-fn ask(program: &str, pairs: impl Iterator<Item = (u64, u64)> + Clone + Send + 'static) -> io::Result<Tally> {
-    let mut child = Command::new(program).stdin(Stdio::piped()).stdout(Stdio::piped()).spawn()?;
-    let (input, output) = (child.stdin.take().unwrap(), child.stdout.take().unwrap());
-    let asked = pairs.clone();
-    // What cannot be written is not answered either: nobody waits for this thread.
-    thread::spawn(move || write_requests(asked, BufWriter::with_capacity(BLOCK, input)));
-    let (sender, receiver) = channel();
-    thread::spawn(move || sender.send(compare(pairs, BufReader::with_capacity(BLOCK, Gathered(output)))));
-    let mut tally = receiver.recv_timeout(PATIENCE).unwrap_or_else(|_| {
-        let mut tally = Tally::default();
-        tally.fail(|| format!("no end of the answers in {} s", PATIENCE.as_secs()));
-        tally
-    });
-    if tally.failed > 0 {
-        child.kill()?;
-    }
-    let status = child.wait()?;
-    if tally.failed == 0 && !status.success() {
-        tally.fail(|| format!("{program} ended with {status}"));
-    }
-    Ok(tally)
+fn questions(pairs: impl Iterator<Item = (u64, u64)> + Clone) -> impl Iterator<Item = Count> + Clone {
+    pairs.flat_map(|(m, n)| ASKED.iter().map(move |asked| Count(m, n, asked)))
 }
 
 /// What was answered otherwise goes to `out`, and at the end `N passed, M failed`.
 pub fn counts(program: &str, seed: u64, out: &mut dyn Write) -> io::Result<()> {
-    let tallies: io::Result<Vec<Tally>> = thread::scope(|scope| {
-        let parts = (0..PARTS).map(|part| scope.spawn(move || ask(program, pairs(seed).skip(part).step_by(PARTS))));
-        let parts: Vec<_> = parts.collect();
-        parts.into_iter().map(|part| part.join().expect("a thread that asks")).collect()
-    });
-    let tallies = tallies?;
-    for line in tallies.iter().flat_map(|tally| &tally.shown) {
-        writeln!(out, "{line}")?;
-    }
-    let passed: u64 = tallies.iter().map(|tally| tally.passed).sum();
-    let failed: u64 = tallies.iter().map(|tally| tally.failed).sum();
-    writeln!(out, "{passed} passed, {failed} failed")?;
-    out.flush()?;
-    if failed > 0 {
-        return Err(Error::other(format!("{program} does not answer every count")));
-    }
-    Ok(())
+    compare_all(program, questions(pairs(seed)), out)
 }
 
 #[cfg(test)]
@@ -165,44 +66,16 @@ mod tests {
 
     const PAIRS: [(u64, u64); 4] = [(0, 0), (6, 7), (9, 7), (3, u64::MAX)];
 
-    fn compared(answers: &[Vec<u8>]) -> (u64, u64) {
-        let tally = compare(PAIRS.into_iter(), &answers.concat()[..]);
-        assert_eq!(tally.shown.len() as u64, tally.failed.min(5));
-        (tally.passed, tally.failed)
-    }
-
+    /// The requests are those of the layer, which answers them alike.
     #[test]
-    fn comparison_can_fail() {
-        let mut requests = Vec::new();
-        write_requests(PAIRS.into_iter(), &mut requests).unwrap();
-        let right: Vec<Vec<u8>> = requests.split_inclusive(|byte| *byte == b'\n').map(answer_to).collect();
-        assert_eq!(right.concat(), b"0\n0\n1\n2\n3\n3\n2\n3\n3\n64\n65\n65\n");
-        assert_eq!(compared(&right), (12, 0));
-
-        let with = |at: usize, answer: &[u8]| [&right[..at], &[answer.to_vec()], &right[at + 1..]].concat();
-        for wrong in ["3\n", "02\n", "2 \n", "?\n", "\n"] {
-            assert_eq!(compared(&with(3, wrong.as_bytes())), (11, 1), "{wrong:?}");
+    fn requests_and_answers() {
+        let (mut requests, mut answers) = (Vec::new(), Vec::new());
+        for question in questions(PAIRS.into_iter()) {
+            question.request(&mut requests);
+            question.answer(&mut answers);
         }
-        // A line that is cut off, and one that is too long.
-        assert_eq!(compared(&with(11, b"65")), (11, 1));
-        assert_eq!(compared(&with(11, &[b'6'; 100])), (11, 2));
-        // One is missing: the last, the first, all.
-        assert_eq!(compared(&right[..11]), (11, 1));
-        assert_ne!(compared(&right[1..]).1, 0);
-        assert_eq!(compared(&[]), (0, 1));
-        // One is left over.
-        assert_eq!(compared(&[&right[..], &[b"65\n".to_vec()]].concat()), (12, 1));
-        assert_eq!(compared(&[&right[..], &[b"\n".to_vec()]].concat()), (12, 1));
-    }
-
-    /// Programs that do not read, that answer something else, and that never end.
-    #[test]
-    fn other_programs_fail() {
-        for program in ["true", "cat", "yes"] {
-            let tally = ask(program, PAIRS.into_iter()).unwrap();
-            assert!(tally.passed == 0 && tally.failed > 0, "{program}");
-        }
-        assert!(ask("no such program", PAIRS.into_iter()).is_err());
+        assert_eq!(answers, b"0\n0\n1\n2\n3\n3\n2\n3\n3\n64\n65\n65\n");
+        assert_eq!(requests.split_inclusive(|byte| *byte == b'\n').flat_map(answer_to).collect::<Vec<u8>>(), answers);
     }
 
     #[test]

@@ -107,10 +107,12 @@ impl Reader<'_> {
     }
 }
 
-/// Every extension is whole; one that is cut short is refused where it starts.
-/// The first stands at `start` of the item.
+/// Every extension is whole, and its type is above that of the one before. The
+/// first that is not is refused where it starts, 2 before 15, whatever comes
+/// after it. The first of the list stands at `start` of the item.
 fn check_extensions(encoded: &[u8], start: usize) -> Result<(), Refusal> {
     let mut at = 0;
+    let mut before: Option<u16> = None;
     while at < encoded.len() {
         let rest = &encoded[at..];
         if rest.len() < 4 {
@@ -120,6 +122,11 @@ fn check_extensions(encoded: &[u8], start: usize) -> Result<(), Refusal> {
         if rest.len() < 4 + data {
             return refuse(2, start + at);
         }
+        let kind = u16::from_be_bytes([rest[0], rest[1]]);
+        if before.is_some_and(|before| kind <= before) {
+            return refuse(15, start + at);
+        }
+        before = Some(kind);
         at += 4 + data;
     }
     Ok(())
@@ -386,6 +393,8 @@ pub fn newer<'a>(first: &'a [u8], second: &'a [u8]) -> &'a [u8] {
 #[cfg(test)]
 mod tests {
     use super::*;
+    use crate::layers::item::ORDER_BY_HAND;
+    use crate::random::Random;
     use crate::words::read_hex;
 
     fn refusal(number: u64, place: usize) -> Result<(u16, Item), Refusal> {
@@ -477,6 +486,9 @@ mod tests {
         assert_eq!(with(60, 7), refusal(2, 57));
         assert_eq!(with(60, 3), refusal(2, 64));
         assert_eq!(with(66, 1), refusal(2, 63));
+        assert_eq!(with(64, 1), refusal(15, 63));
+        assert_eq!(with(58, 2), refusal(15, 63));
+        assert_eq!(with(57, 1), refusal(15, 63));
         assert_eq!(with(22, 31), refusal(5, 22));
         assert_eq!(with(22, 33), refusal(5, 22));
         // Consistency: the path from 2 + 4 + 16, its nodes two later.
@@ -508,6 +520,8 @@ mod tests {
         assert_eq!(refused(0x0100, |f| f.certificate.clear()), (5, 43));
         assert_eq!(refused(0x0100, |f| f.extensions.push(0)), (2, 43 + 8 + 2 + 10));
         assert_eq!(refused(0x0100, |f| f.extensions = vec![0; 65_536]), (5, 43 + 8));
+        assert_eq!(refused(0x0100, |f| f.extensions = vec![0; 65_535]), (15, 43 + 8 + 2 + 4));
+        assert_eq!(refused(0x0100, |f| f.extensions[1] = 2), (15, 43 + 8 + 2 + 6));
         assert_eq!(refused(0x0102, |f| f.log_id = vec![0; 128]), (5, 2));
         assert_eq!(refused(0x0102, |f| f.log_id = vec![0; 1]), (5, 2));
         assert_eq!(refused(0x0102, |f| f.signature.clear()), (5, 26));
@@ -524,6 +538,84 @@ mod tests {
         // A field that the type lacks isn't looked at.
         longest.signature.clear();
         assert!(encode(0x0105, &longest).is_ok());
+    }
+
+    /// The cases by hand of extensions in order, in the readings' receipt.
+    #[test]
+    fn extensions_by_hand() {
+        let receipt = |said: usize, elements: &[u8], behind: &[u8]| {
+            [&read_hex(b"0102022a030000000000000005").unwrap(), &(said as u16).to_be_bytes()[..], elements, behind].concat()
+        };
+        let with = |extensions: &[u8]| Fields {
+            timestamp: 5,
+            log_id: vec![0x2a, 3],
+            signature: vec![0x73],
+            extensions: extensions.to_vec(),
+            ..Fields::default()
+        };
+        for (elements, number, place) in ORDER_BY_HAND {
+            let elements = read_hex(elements.as_bytes()).unwrap();
+            let (item, fields) = (receipt(elements.len(), &elements, &[0, 1, 0x73]), with(&elements));
+            let mut lent = [7; 60];
+            let (read, written) = (read(&item), write(0x0102, &fields, &mut lent));
+            if number > 0 {
+                assert_eq!((read, written), (refusal(number, place), refuse(number, place)), "{elements:x?}");
+                assert_eq!(write(0x0102, &Fields { signature: vec![], ..fields }, &mut []), refuse(number, place));
+                assert_eq!(lent, [7; 60]);
+                continue;
+            }
+            let end = 15 + elements.len();
+            let fields = Item::Receipt { log_id: 3..5, timestamp: 5, extensions: 15..end, signature: end + 2..end + 3 };
+            assert_eq!((read, written), (Ok((0x0102, fields)), Ok(item.len())));
+            assert_eq!(lent[..item.len()], item);
+        }
+        let elements = [0, 2, 0, 0, 0, 1, 0, 0];
+        assert_eq!(read(&receipt(8, &elements, &[0, 0])), refusal(15, 19));
+        assert_eq!(read(&receipt(8, &elements, &[0, 1, 0x73, 0])), refusal(15, 19));
+        assert_eq!(read(&receipt(12, &elements, &[0, 1, 0x73])), refusal(2, 13));
+        assert_eq!(write(0x0102, &with(&[0; 65_536]), &mut []), refuse(5, 13));
+        assert_eq!(write(0x0102, &Fields { log_id: vec![0x2a], ..with(&elements) }, &mut []), refuse(5, 2));
+    }
+
+    /// The number and place for a list of extensions by another way: all that are whole are compared
+    /// with their neighbours, and only the last of a list can be cut.
+    fn judged(encoded: &[u8]) -> Option<(u64, usize)> {
+        let (mut whole, mut at) = (Vec::new(), 0);
+        while let Some(end) = encoded.get(at..at + 4).map(|four| at + 4 + four[2] as usize * 256 + four[3] as usize) {
+            if end > encoded.len() {
+                break;
+            }
+            whole.push((encoded[at] as usize * 256 + encoded[at + 1] as usize, at));
+            at = end;
+        }
+        let unordered = whole.windows(2).find(|two| two[0].0 >= two[1].0).map(|two| (15, two[1].1));
+        unordered.or((at < encoded.len()).then_some((2, at)))
+    }
+
+    #[test]
+    fn extensions_two_ways() {
+        let random = &mut Random::new(5);
+        let mut counts = [0; 16];
+        for _ in 0..60_000 {
+            let mut encoded = Vec::new();
+            let mut kind = 0;
+            for _ in 0..random.below(7) {
+                // Mostly a little higher than the one before it.
+                kind = if random.one_in(6) { *random.pick(&[0, 255, 256, 0x7fff, 0x8000, 0xffff]) } else { kind + random.below(300) };
+                let data = random.below(4);
+                encoded.extend((kind as u16).to_be_bytes());
+                encoded.extend((data as u16).to_be_bytes());
+                encoded.extend(random.bytes(data as usize));
+            }
+            if random.one_in(3) {
+                encoded.truncate(random.below(encoded.len() as u64 + 1) as usize);
+            }
+            let expected = judged(&encoded);
+            let found = check_extensions(&encoded, 1_000).err().map(|refusal| (refusal.number, refusal.place - 1_000));
+            assert_eq!(found, expected, "{encoded:x?}");
+            counts[expected.map_or(0, |(number, _)| number as usize)] += 1;
+        }
+        assert!([0, 2, 15].iter().all(|number| counts[*number] > 5_000), "{counts:?}");
     }
 
     #[test]
@@ -572,5 +664,16 @@ mod tests {
         assert!(newer(&a, &head(6, 9, 2)).is_empty());
         assert!(newer(&a, &a[1..]).is_empty());
         assert!(newer(&a, &encode(0x0103, &sample()).unwrap()).is_empty());
+        // Extensions out of order: no readable head. The second's type lies at 62, that of the first is 1.
+        let (mut less, mut more) = (head(4, 9, 1), head(6, 9, 1));
+        assert!(std::ptr::eq(newer(&a, &less), &a[..]) && std::ptr::eq(newer(&a, &more), &more[..]));
+        for kind in [0, 1] {
+            (less[63], more[63]) = (kind, kind);
+            for other in [&less, &more] {
+                let both = [newer(&a, other), newer(other, &a), newer(other, other)];
+                assert!(both.iter().all(|part| part.is_empty()));
+                assert!(std::ptr::eq(both[0], &a[..0]) && std::ptr::eq(both[1], &other[..0]) && std::ptr::eq(both[2], &other[..0]));
+            }
+        }
     }
 }

@@ -4,9 +4,11 @@
 pub mod auditor;
 pub mod carry;
 pub mod counts;
+pub mod extensions;
 pub mod growing;
 pub mod item;
 pub mod pace;
+pub mod pipe;
 pub mod proofs;
 pub mod random;
 pub mod requests;

@@ -207,7 +207,7 @@ mod tests {
         }
         let requests = committed();
         let (asked, answered) = (requests.len(), answers(LAYERS, &requests).len());
-        assert!(asked < 1_400_000 && answered < 1_400_000, "{asked} and {answered}");
+        assert!(asked < 1_500_000 && answered < 1_500_000, "{asked} and {answered}");
         assert_eq!(requests, committed());
     }
 

@@ -3,7 +3,7 @@
 use crate::compare::{show, Lent, Tally};
 use mta::{mta_consistency_item, mta_item};
 use reference::item::{self, encode, Fields, LONGEST_ITEM, LONGEST_PATH};
-use reference::layers::item::{random_fields, random_item, smallest, whole_and_damaged, KINDS};
+use reference::layers::item::{most_extensions, random_fields, random_item, smallest, whole_and_damaged, with_elements, EXTENDED, KINDS};
 use reference::random::Random;
 
 /// The place is set by every call, to 0 where the item is read.
@@ -88,6 +88,16 @@ pub fn edges(tally: &mut Tally, random: &mut Random) {
             read(&input, tally, random);
             input.push(0);
             read(&input, tally, random);
+        }
+    }
+    // As many extensions as a list holds; the second, one in the middle and the last of the type before it.
+    for kind in EXTENDED {
+        let good = most_extensions();
+        read(&with_elements(kind, &smallest(9), &good), tally, random);
+        for at in [1, 8_000, good.len() / 4 - 1] {
+            let mut bad = good.clone();
+            bad.copy_within(4 * at - 4..4 * at - 2, 4 * at);
+            read(&with_elements(kind, &smallest(9), &bad), tally, random);
         }
     }
     for byte in [0, 1, 0xf0, 255] {

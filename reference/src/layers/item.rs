@@ -2,8 +2,9 @@
 
 use crate::item::{self, encode, Fields, Item, Span};
 use crate::random::Random;
-use crate::requests::{lines_that_are_no_request, Entry, Layer, Requests};
+use crate::requests::{lines_that_are_no_request, Asked, Entry, Layer, Requests};
 use crate::words::{bytes, number, read_hex, repeated, Word};
+use std::collections::BTreeSet;
 
 pub const LAYER: Layer = Layer {
     name: "item",
@@ -21,6 +22,10 @@ pub const LAYER: Layer = Layer {
 /// One of each layout.
 const LAYOUTS: [u16; 5] = [0x0101, 0x0103, 0x0104, 0x0105, 0xf001];
 pub const KINDS: [u16; 8] = [0x0100, 0x0101, 0x0102, 0x0103, 0x0104, 0x0105, 0x0106, 0xf001];
+/// The types that have extensions.
+pub const EXTENDED: [u16; 5] = [0x0100, 0x0101, 0x0102, 0x0103, 0x0104];
+/// Types of extensions: both ends, and both sides of a byte's carry and of the highest bit.
+pub const EXTENSION_TYPES: [u16; 6] = [0, 0x00ff, 0x0100, 0x7fff, 0x8000, 0xffff];
 
 // Answers.
 
@@ -135,7 +140,7 @@ fn short(value: &[u8]) -> Word {
     }
 }
 
-fn write_words(kind: u16, f: &Fields, lent: Word) -> Vec<Word> {
+pub fn write_words(kind: u16, f: &Fields, lent: Word) -> Vec<Word> {
     vec![
         number(kind as u64),
         number(f.timestamp),
@@ -173,15 +178,109 @@ pub fn smallest(byte: u8) -> Fields {
     }
 }
 
-fn random_extensions(count: u64, longest: u64, random: &mut Random) -> Vec<u8> {
+fn random_type(random: &mut Random) -> u16 {
+    if random.one_in(3) {
+        *random.pick(&EXTENSION_TYPES)
+    } else {
+        random.draw() as u16
+    }
+}
+
+/// Extensions of these types, with data of any bytes.
+fn extensions_of(types: impl IntoIterator<Item = u16>, longest: u64, random: &mut Random) -> Vec<u8> {
     let mut all = Vec::new();
-    for _ in 0..count {
+    for one in types {
         let length = random.below(longest + 1);
-        all.extend(random.bytes(2));
+        all.extend(one.to_be_bytes());
         all.extend((length as u16).to_be_bytes());
         all.extend(random.bytes(length as usize));
     }
     all
+}
+
+/// So many extensions in order.
+fn random_extensions(count: usize, longest: u64, random: &mut Random) -> Vec<u8> {
+    let mut types = BTreeSet::new();
+    while types.len() < count {
+        types.insert(random_type(random));
+    }
+    extensions_of(types, longest, random)
+}
+
+/// Where the extensions of a list start, up to one that is cut; and where the last of them ends.
+fn starts(encoded: &[u8]) -> (Vec<usize>, usize) {
+    let (mut all, mut at) = (Vec::new(), 0);
+    while let Some(length) = encoded.get(at + 2..at + 4) {
+        let next = at + 4 + u16::from_be_bytes([length[0], length[1]]) as usize;
+        if next > encoded.len() {
+            break;
+        }
+        all.push(at);
+        at = next;
+    }
+    (all, at)
+}
+
+fn type_at(encoded: &[u8], at: usize) -> u16 {
+    u16::from_be_bytes([encoded[at], encoded[at + 1]])
+}
+
+fn set_type(encoded: &mut [u8], at: usize, to: u16) {
+    encoded[at..at + 2].copy_from_slice(&to.to_be_bytes());
+}
+
+/// Takes one extension out of order: its type becomes the one before it, or a smaller
+/// one, or changes places with it. A list of fewer than two has more then.
+fn disorder(encoded: &mut Vec<u8>, random: &mut Random) {
+    let (mut all, end) = starts(encoded);
+    if all.len() < 2 {
+        encoded.truncate(end);
+        while all.len() < 2 {
+            all.push(encoded.len());
+            encoded.extend(extensions_of([random_type(random)], 3, random));
+        }
+    }
+    let at = random.between(1, all.len() as u64 - 1) as usize;
+    let (before, own) = (type_at(encoded, all[at - 1]), type_at(encoded, all[at]));
+    match random.below(4) {
+        0 => set_type(encoded, all[at], before),
+        1 => set_type(encoded, all[at], before.saturating_sub(1)),
+        2 => set_type(encoded, all[at], random.between(0, before as u64) as u16),
+        _ => {
+            set_type(encoded, all[at - 1], before.max(own));
+            set_type(encoded, all[at], before.min(own));
+        }
+    }
+}
+
+/// Extensions that are refused: out of order, cut, or out of order and cut behind it.
+fn bad_extensions(encoded: &[u8], random: &mut Random) -> Vec<u8> {
+    let mut bad = encoded.to_vec();
+    let sort = random.below(4);
+    if sort < 3 {
+        disorder(&mut bad, random);
+    }
+    if sort >= 2 {
+        let whole = extensions_of([random_type(random)], 3, random);
+        let keep = random.between(1, whole.len() as u64 - 1) as usize;
+        bad.extend(&whole[..keep]);
+    }
+    bad
+}
+
+/// The item with these elements of its extensions, whatever they are; its other
+/// fields are in range.
+pub fn with_elements(kind: u16, fields: &Fields, elements: &[u8]) -> Vec<u8> {
+    let without = encode(kind, &Fields { extensions: vec![], ..fields.clone() }).unwrap();
+    let at = extensions_in(&item::read(&without).unwrap().1).expect("a type with extensions").start;
+    [&without[..at - 2], &(elements.len() as u16).to_be_bytes(), elements, &without[at..]].concat()
+}
+
+fn extensions_in(item: &Item) -> Option<Span> {
+    match item {
+        Item::Entry { extensions, .. } | Item::Receipt { extensions, .. } | Item::Head { extensions, .. } => Some(extensions.clone()),
+        _ => None,
+    }
 }
 
 /// Fields of any sort, of a few dozen bytes; all in range.
@@ -198,7 +297,7 @@ pub fn random_fields(random: &mut Random) -> Fields {
         let bits = random.below(65);
         random.draw().checked_shr(bits as u32).unwrap_or(0)
     }
-    let extensions = random.below(4);
+    let extensions = *random.pick(&[0, 1, 1, 2, 2, 3, 3, 6]);
     let nodes = random.below(5);
     Fields {
         timestamp: value(random),
@@ -235,23 +334,20 @@ fn length_bytes(input: &[u8]) -> Vec<usize> {
     let (_, item) = item::read(input).expect("a whole item");
     let mut places = Vec::new();
     let mut prefix = |span: &Span, width: usize| places.extend(span.start - width..span.start);
-    let (mut extended, mut path_of) = (None, None);
+    let mut path_of = None;
     match &item {
-        Item::Entry { key_hash, certificate, extensions, .. } => {
+        Item::Entry { key_hash, certificate, .. } => {
             prefix(key_hash, 1);
             prefix(certificate, 3);
-            extended = Some(extensions.clone());
         }
-        Item::Receipt { log_id, extensions, signature, .. } => {
+        Item::Receipt { log_id, signature, .. } => {
             prefix(log_id, 1);
             prefix(signature, 2);
-            extended = Some(extensions.clone());
         }
-        Item::Head { log_id, root, extensions, signature, .. } => {
+        Item::Head { log_id, root, signature, .. } => {
             prefix(log_id, 1);
             prefix(root, 1);
             prefix(signature, 2);
-            extended = Some(extensions.clone());
         }
         Item::Consistency { log_id, path, .. } | Item::Inclusion { log_id, path, .. } => {
             prefix(log_id, 1);
@@ -259,13 +355,10 @@ fn length_bytes(input: &[u8]) -> Vec<usize> {
         }
         Item::Page { body, .. } => prefix(body, 3),
     }
-    if let Some(span) = extended {
+    if let Some(span) = extensions_in(&item) {
         prefix(&span, 2);
-        let mut at = span.start;
-        while at < span.end {
-            prefix(&(at + 4..at + 4), 2);
-            at += 4 + u16::from_be_bytes([input[at + 2], input[at + 3]]) as usize;
-        }
+        let data = starts(&input[span.clone()]).0.into_iter().map(|at| span.start + at + 4);
+        data.for_each(|at| prefix(&(at..at), 2));
     }
     if let Some(span) = path_of {
         prefix(&span, 2);
@@ -280,8 +373,24 @@ fn with_byte(input: &[u8], at: usize, byte: u8) -> Vec<u8> {
     changed
 }
 
+/// The item with every two neighbours of its extensions out of order: of one type, and exchanged.
+fn out_of_order(input: &[u8]) -> Vec<Vec<u8>> {
+    let Some(span) = extensions_in(&item::read(input).expect("a whole item").1) else { return vec![] };
+    let all = starts(&input[span.clone()]).0;
+    let with = |two: &[usize], types: [u16; 2]| {
+        let mut changed = input.to_vec();
+        (0..2).for_each(|i| set_type(&mut changed, span.start + two[i], types[i]));
+        changed
+    };
+    let pair = |two: &[usize]| {
+        let [one, other] = [0, 1].map(|i| type_at(input, span.start + two[i]));
+        [with(two, [one, one]), with(two, [other, one])]
+    };
+    all.windows(2).flat_map(pair).collect()
+}
+
 /// An item, each of its beginnings, each length byte off by one and at its ends,
-/// and bytes after it.
+/// extensions out of order, and bytes after it.
 pub fn whole_and_damaged(input: &[u8], random: &mut Random) -> Vec<Vec<u8>> {
     let mut all = vec![input.to_vec()];
     all.extend((0..input.len()).map(|cut| input[..cut].to_vec()));
@@ -289,6 +398,7 @@ pub fn whole_and_damaged(input: &[u8], random: &mut Random) -> Vec<Vec<u8>> {
         let changes = [input[at].wrapping_add(1), input[at].wrapping_sub(1), 0, 255];
         all.extend(changes.map(|byte| with_byte(input, at, byte)));
     }
+    all.extend(out_of_order(input));
     all.extend([1, 2, 33].map(|add| [input, &random.bytes(add)].concat()));
     all
 }
@@ -300,8 +410,8 @@ fn ask_whole_and_damaged(requests: &mut Requests, input: &[u8], random: &mut Ran
 /// A change of one field.
 type Change = (fn(&mut Fields, &mut Random), &'static str);
 
-/// Lengths next to and beyond the ends of each field's range.
-const BAD_FIELDS: [Change; 24] = [
+/// Lengths next to and beyond the ends of each field's range, and extensions cut or out of order.
+const BAD_FIELDS: [Change; 29] = [
     (|f, _| f.log_id.clear(), "log_id"),
     (|f, _| f.log_id.truncate(1), "log_id"),
     (|f, _| f.log_id = vec![1; 128], "log_id"),
@@ -316,9 +426,14 @@ const BAD_FIELDS: [Change; 24] = [
     (|f, _| f.signature = vec![3; 65_537], "signature"),
     (|f, _| f.extensions = vec![0; 65_536], "extensions"),
     (|f, _| f.extensions = vec![0; 65_535], "extensions"),
+    (|f, _| f.extensions = vec![255; 65_535], "extensions"),
     (|f, r| f.extensions.extend(r.bytes(1)), "extensions"),
     (|f, r| f.extensions.extend([r.byte(), 0, 0]), "extensions"),
     (|f, r| f.extensions.extend([r.byte(), 0, 0, 2, 7]), "extensions"),
+    (|f, r| disorder(&mut f.extensions, r), "extensions"),
+    (|f, r| f.extensions = bad_extensions(&f.extensions, r), "extensions"),
+    (|f, _| f.extensions = [&[255, 255, 0, 0], &f.extensions[..]].concat(), "extensions"),
+    (|f, _| f.extensions.extend([0; 7]), "extensions"),
     (|f, _| f.root.truncate(31), "root"),
     (|f, _| f.root.push(0), "root"),
     (|f, r| f.path.extend(r.bytes(1)), "path"),
@@ -353,7 +468,7 @@ fn without_others(kind: u16, fields: &Fields) -> Fields {
         f.certificate = vec![];
     }
     if !has("extensions") {
-        f.extensions = vec![1];
+        f.extensions = vec![0; 9];
     }
     if !has("signature") {
         f.signature = vec![];
@@ -535,6 +650,127 @@ fn path_cases(requests: &mut Requests, counts: &[usize], random: &mut Random) {
     }
 }
 
+/// The cases by hand of request 5, extensions in order, as its readings list them, and types at
+/// their ends: the elements of the extensions of `around(0x0102)`, the first of which stands at
+/// 15; then number and place, 0 where it is read.
+pub const ORDER_BY_HAND: [(&str, u64, usize); 18] = [
+    ("0001000000020000", 0, 0),
+    ("0000000000010000", 0, 0),
+    ("7fff000080000000", 0, 0),
+    ("0001000000010000", 15, 19),
+    ("ffff0000ffff0000", 15, 19),
+    ("00020001aa00010000", 15, 20),
+    ("00010000000300000002000000040000", 15, 23),
+    ("00020000000100", 2, 19),
+    ("0002000000010001", 2, 19),
+    ("000200000001000000000001", 15, 19),
+    ("0002000000030001", 2, 19),
+    ("", 0, 0),
+    ("00000000", 0, 0),
+    ("fffe0000ffff0000", 0, 0),
+    ("00ff000001000000", 0, 0),
+    ("0100000000ff0000", 15, 19),
+    ("800000007fff0000", 15, 19),
+    ("0000000000000000", 15, 19),
+];
+
+/// The fields of these cases.
+pub fn by_hand() -> Fields {
+    Fields {
+        timestamp: 5,
+        log_id: vec![0x2a, 3],
+        key_hash: vec![0x44; 32],
+        certificate: vec![0x63],
+        signature: vec![0x73],
+        size: 7,
+        root: vec![0x44; 32],
+        ..Fields::default()
+    }
+}
+
+/// Their item of a type that has extensions: what stands before this vector, and what behind it.
+pub fn around(kind: u16) -> (Vec<u8>, &'static [u8]) {
+    const LOG_ID: &[u8] = &[2, 0x2a, 3];
+    const SIGNATURE: &[u8] = &[0, 1, 0x73];
+    const TIMESTAMP: &[u8] = &[0, 0, 0, 0, 0, 0, 0, 5];
+    const SIZE: &[u8] = &[0, 0, 0, 0, 0, 0, 0, 7];
+    const CERTIFICATE: &[u8] = &[0, 0, 1, 0x63];
+    let mut hash = [0x44; 33];
+    hash[0] = 32;
+    let kind_bytes = &kind.to_be_bytes()[..];
+    match kind {
+        0x0100 | 0x0101 => ([kind_bytes, TIMESTAMP, &hash, CERTIFICATE].concat(), &[]),
+        0x0102 | 0x0103 => ([kind_bytes, LOG_ID, TIMESTAMP].concat(), SIGNATURE),
+        _ => ([kind_bytes, LOG_ID, TIMESTAMP, SIZE, &hash].concat(), SIGNATURE),
+    }
+}
+
+/// What the reader says of their item of a type, with extensions of so many bytes.
+fn read_by_hand(kind: u16, length: u64) -> Vec<Word> {
+    let says: &[u64] = match kind {
+        0x0100 | 0x0101 => &[5, 11, 32, 46, 1, 49, length],
+        0x0102 | 0x0103 => &[3, 2, 5, 15, length, 17 + length, 1],
+        _ => &[3, 2, 5, 7, 22, 32, 56, length, 58 + length, 1],
+    };
+    [0, kind as u64].iter().chain(says).map(|value| number(*value)).collect()
+}
+
+/// These cases for the reader and the writer, in every type that has extensions: each request with the answer that must be given.
+fn order_cases() -> Vec<(Vec<Word>, Asked)> {
+    let mut all = Vec::new();
+    for kind in EXTENDED {
+        let (before, behind) = around(kind);
+        let (vector, first) = (before.len(), before.len() + 2);
+        let item = |said: usize, elements: &[u8], behind: &[u8]| [&before, &(said as u16).to_be_bytes()[..], elements, behind].concat();
+        let read = |answer: Vec<Word>, input: &[u8]| (answer, ("read", vec![bytes(input)]));
+        let refused = |refusal: u64, place: usize, input: &[u8]| read(vec![number(refusal), number(place as u64)], input);
+        let unwritten = |refusal: u64, place: usize, fields: &Fields, lent: usize| {
+            let answer = vec![number(refusal), number(place as u64), number(0), bytes(&vec![0xee; lent])];
+            (answer, ("write", write_words(kind, fields, repeated(lent, 0xee))))
+        };
+        for (elements, refusal, place) in ORDER_BY_HAND {
+            let elements = read_hex(elements.as_bytes()).unwrap();
+            let input = item(elements.len(), &elements, behind);
+            let fields = Fields { extensions: elements.clone(), ..by_hand() };
+            if refusal == 0 {
+                all.push(read(read_by_hand(kind, elements.len() as u64), &input));
+                let answer = vec![number(0), number(0), number(input.len() as u64), bytes(&input)];
+                all.push((answer, ("write", write_words(kind, &fields, repeated(input.len(), 0xee)))));
+                all.push(unwritten(9, 0, &fields, input.len() - 1));
+                continue;
+            }
+            let place = place - 15 + first;
+            all.push(refused(refusal, place, &input));
+            all.push(unwritten(refusal, place, &fields, input.len()));
+            all.push(unwritten(refusal, place, &Fields { signature: vec![], ..fields }, 0));
+        }
+        let elements = read_hex(b"0002000000010000").unwrap();
+        if !behind.is_empty() {
+            all.push(refused(15, first + 4, &item(8, &elements, &[0, 0])));
+        }
+        all.push(refused(15, first + 4, &item(8, &elements, &[behind, &[0]].concat())));
+        all.push(refused(2, vector, &item(12, &elements, behind)));
+        all.push(unwritten(5, vector, &Fields { extensions: vec![0; 65_536], ..by_hand() }, 0));
+        let earlier = Fields { log_id: vec![0x2a], key_hash: vec![0x44; 31], extensions: elements, ..by_hand() };
+        all.push(unwritten(5, if kind < 0x0102 { 10 } else { 2 }, &earlier, 0));
+    }
+    all
+}
+
+/// Newer-head, where the extensions of one head or of both are out of order: the empty part, whichever is larger.
+fn newer_order_cases() -> Vec<(Vec<Word>, Asked)> {
+    let head = |size: u64| encode(0x0104, &Fields { size, extensions: vec![0, 1, 0, 0, 0, 2, 0, 0], ..by_hand() }).unwrap();
+    // The second extension stands at 60.
+    let equal = |size: u64| with_byte(&head(size), 61, 1);
+    let below = |size: u64| with_byte(&head(size), 61, 0);
+    let ask = |part: &[u8], one: &[u8], two: &[u8]| (vec![bytes(part)], ("newer", vec![bytes(one), bytes(two)]));
+    let mut all = vec![ask(&head(6), &head(5), &head(6)), ask(&head(6), &head(6), &head(5)), ask(&head(5), &head(5), &head(5))];
+    for bad in [equal(4), equal(5), equal(6), below(4), below(6)] {
+        all.extend([ask(&[], &bad, &head(5)), ask(&[], &head(5), &bad), ask(&[], &bad, &bad)]);
+    }
+    all
+}
+
 /// The papers' item of 23 bytes, whole and spoilt.
 fn papers_cases(requests: &mut Requests) {
     let whole = read_hex(b"0106022a030000000000000001000000000000000000").unwrap();
@@ -578,6 +814,7 @@ fn cases(requests: &mut Requests) {
     }
     write_cases(requests, &LAYOUTS, random);
     newer_cases(requests, random);
+    order_cases().into_iter().chain(newer_order_cases()).for_each(|(_, (name, words))| requests.ask(name, &words));
     path_cases(requests, &[0, 1, 2], &mut Random::new(414));
 
     lines_that_are_no_request(requests, "read");
@@ -610,6 +847,39 @@ fn cases(requests: &mut Requests) {
     }
 }
 
+/// As many extensions as a list holds, in order.
+pub fn most_extensions() -> Vec<u8> {
+    (0..65_535 / 4).flat_map(|i: u16| [(i >> 8) as u8, i as u8, 0, 0]).collect()
+}
+
+/// Long lists of which one extension is out of order, at any place.
+fn long_order_cases(requests: &mut Requests, random: &mut Random) {
+    for kind in EXTENDED {
+        for count in [7, 33] {
+            let good = random_extensions(count, 3, random);
+            for at in starts(&good).0.windows(2) {
+                let before = type_at(&good, at[0]);
+                for own in [before, before.saturating_sub(1), 0] {
+                    let mut extensions = good.clone();
+                    set_type(&mut extensions, at[1], own);
+                    requests.ask("read", &[bytes(&with_elements(kind, &by_hand(), &extensions))]);
+                    requests.ask("write", &write_words(kind, &Fields { extensions, ..by_hand() }, repeated(7, 0xee)));
+                }
+            }
+        }
+    }
+    let mut extensions = most_extensions();
+    for kind in EXTENDED {
+        let last = extensions.len() - 4;
+        let own = type_at(&extensions, last);
+        for other in [own, own - 1, 0] {
+            set_type(&mut extensions, last, other);
+            requests.ask("read", &[bytes(&with_elements(kind, &by_hand(), &extensions))]);
+        }
+        set_type(&mut extensions, last, own);
+    }
+}
+
 /// Longest fields, every byte of many items changed, every beginning of more.
 fn full(requests: &mut Requests) {
     let random = &mut Random::new(413);
@@ -637,7 +907,7 @@ fn full(requests: &mut Requests) {
     long.signature = random.bytes(1);
     long.extensions = [&[0, 9, 0xff, 0xfb][..], &random.bytes(65_531)].concat();
     let long_extension = long.clone();
-    long.extensions = vec![0; 65_532];
+    long.extensions = most_extensions();
     let many_extensions = long.clone();
     long.extensions = vec![];
     long.path = random.bytes(item::LONGEST_PATH);
@@ -665,10 +935,11 @@ fn full(requests: &mut Requests) {
         ask_path(requests, &input, path.start, path.len(), lent);
     }
     path_cases(requests, &[0, 1, 2, 7, 31, 33, 100], random);
+    long_order_cases(requests, random);
     // Written: longest fields of repeated bytes.
     let mut long = smallest(6);
     long.log_id = vec![1; 127];
-    long.extensions = vec![0; 65_532];
+    long.extensions = most_extensions();
     long.signature = vec![2; 65_535];
     long.path = vec![3; item::LONGEST_PATH];
     long.certificate = vec![4; 300_000];
@@ -684,9 +955,8 @@ fn full(requests: &mut Requests) {
 
 // Random requests.
 
-/// None to three small changes.
-fn damage(input: &mut Vec<u8>, random: &mut Random) {
-    let lengths = length_bytes(input);
+/// None to three small changes, many of them at the bytes of lengths.
+fn damage(input: &mut Vec<u8>, lengths: &[usize], random: &mut Random) {
     for _ in 0..*random.pick(&[0, 1, 1, 2, 3]) {
         if input.is_empty() {
             return;
@@ -706,7 +976,7 @@ fn damage(input: &mut Vec<u8>, random: &mut Random) {
             }
             6 => input[at.min(1)] ^= 1 << random.below(3),
             _ => {
-                if let Some(byte) = input.get_mut(*random.pick(&lengths)) {
+                if let Some(byte) = input.get_mut(*random.pick(lengths)) {
                     let change = *random.pick(&[1, 255, 2, 254, 128]);
                     *byte = byte.wrapping_add(change);
                 }
@@ -722,8 +992,25 @@ pub fn random_item(random: &mut Random) -> Vec<u8> {
         return random.bytes(count);
     }
     let kind = *random.pick(&KINDS);
-    let mut input = encode(kind, &random_fields(random)).unwrap();
-    damage(&mut input, random);
+    let fields = random_fields(random);
+    let mut input = encode(kind, &fields).unwrap();
+    let lengths = length_bytes(&input);
+    if EXTENDED.contains(&kind) && random.one_in(2) {
+        input = with_elements(kind, &fields, &bad_extensions(&fields.extensions, random));
+        // What comes later may be wrong too: a byte more, one fewer, an empty signature, anything.
+        match random.below(5) {
+            0 => input.push(random.byte()),
+            1 => input.truncate(input.len() - 1),
+            2 if kind >= 0x0102 => {
+                let signature = input.len() - fields.signature.len() - 2;
+                input[signature..signature + 2].fill(0);
+            }
+            3 => damage(&mut input, &lengths, random),
+            _ => (),
+        }
+    } else {
+        damage(&mut input, &lengths, random);
+    }
     input
 }
 
@@ -734,6 +1021,12 @@ fn random_read(random: &mut Random) -> Vec<Word> {
 fn random_write(random: &mut Random) -> Vec<Word> {
     let kind = if random.one_in(20) { random.draw() as u16 } else { *random.pick(&KINDS) };
     let mut fields = random_fields(random);
+    if random.one_in(4) {
+        fields.extensions = bad_extensions(&fields.extensions, random);
+        if random.one_in(4) {
+            fields.signature.clear();
+        }
+    }
     for _ in 0..*random.pick(&[0, 0, 1, 1, 3]) {
         let (change, _) = random.pick(&BAD_FIELDS);
         change(&mut fields, random);
@@ -758,7 +1051,10 @@ fn random_path(random: &mut Random) -> Vec<Word> {
     let part = if random.one_in(10) { random.pick(&all).clone() } else { all[all.len() - 1].clone() };
     let (mut start, mut length) = (part.start, part.len());
     match random.below(8) {
-        0 => damage(&mut input, random),
+        0 => {
+            let lengths = length_bytes(&input);
+            damage(&mut input, &lengths, random);
+        }
         1 => length = length.wrapping_add(*random.pick(&[1, 2, 33, 66, usize::MAX, usize::MAX - 32])),
         2 => start = start.wrapping_add(*random.pick(&[1, 2, 33, usize::MAX, usize::MAX - 32])),
         3 => {
@@ -804,8 +1100,13 @@ fn random_newer(random: &mut Random) -> Vec<Word> {
         fields.timestamp = random.below(3) << (8 * random.below(2));
         let kind = if random.one_in(20) { *random.pick(&KINDS) } else { 0x0104 };
         let mut head = encode(kind, &fields).unwrap();
-        if random.one_in(6) {
-            damage(&mut head, random);
+        match random.below(12) {
+            0 | 1 => {
+                let lengths = length_bytes(&head);
+                damage(&mut head, &lengths, random);
+            }
+            2 | 3 if EXTENDED.contains(&kind) => head = with_elements(kind, &fields, &bad_extensions(&fields.extensions, random)),
+            _ => (),
         }
         heads.push(bytes(&head));
     }
@@ -816,6 +1117,8 @@ fn random_newer(random: &mut Random) -> Vec<Word> {
 mod tests {
     use super::*;
     use crate::requests::{answer, layer};
+    use crate::words::{read_line, write_line};
+    use std::collections::BTreeMap;
 
     fn ask(line: &str) -> String {
         String::from_utf8(answer(&[layer("item").unwrap()], line.as_bytes())).unwrap()
@@ -852,5 +1155,82 @@ mod tests {
             }
             assert!(encode(kind, &without_others(kind, &middle(random))).is_ok());
         }
+    }
+
+    /// The words of a request's answer, after it was a line.
+    fn answered((name, words): &Asked) -> Vec<Word> {
+        let mut line = Vec::new();
+        write_line(Some(name), words, &mut line);
+        let answer = answer(&[layer("item").unwrap()], &line[..line.len() - 1]);
+        read_line(&[b"answer ", &answer[..answer.len() - 1]].concat()).unwrap().1
+    }
+
+    /// The cases by hand give the readings' numbers and places.
+    #[test]
+    fn extensions_by_hand() {
+        assert_eq!(around(0x0102).0, read_hex(b"0102022a030000000000000005").unwrap());
+        let all = [order_cases(), newer_order_cases()].concat();
+        for (at, (expected, asked)) in all.iter().enumerate() {
+            assert_eq!(&answered(asked), expected, "{at}: {asked:?}");
+        }
+        // Read, written, and written with no room or a later fault; five more, but for the entries' signature; newer.
+        assert_eq!(all.len(), 5 * (3 * ORDER_BY_HAND.len() + 5) - 2 + 3 + 5 * 3);
+        for elements in ["0001000000020000", "7fff000080000000"] {
+            let elements = read_hex(elements.as_bytes()).unwrap();
+            assert_eq!(
+                encode(0x0104, &Fields { extensions: elements.clone(), ..by_hand() }),
+                Ok(with_elements(0x0104, &by_hand(), &elements))
+            );
+        }
+    }
+
+    #[test]
+    fn extensions_are_taken_out_of_order() {
+        let random = &mut Random::new(9);
+        for _ in 0..3_000 {
+            let count = random.below(6) as usize;
+            let good = random_extensions(count, 3, random);
+            assert_eq!((starts(&good).0.len(), starts(&good).1), (count, good.len()));
+            let list = |extensions: Vec<u8>| encode(0x0103, &Fields { extensions, ..by_hand() }).map_err(|refusal| refusal.number);
+            assert!(list(good.clone()).is_ok());
+            let mut other = good.clone();
+            disorder(&mut other, random);
+            assert_eq!(list(other), Err(15));
+            assert!(matches!(list(bad_extensions(&good, random)), Err(2 | 15)));
+            let input = encode(0x0100, &Fields { extensions: good, ..by_hand() }).unwrap();
+            let others = out_of_order(&input);
+            assert_eq!(others.len(), 2 * count.saturating_sub(1));
+            assert!(others.iter().all(|other| item::read(other).is_err_and(|refusal| refusal.number == 15)));
+        }
+        assert!(encode(0x0104, &Fields { extensions: most_extensions(), ..by_hand() }).is_ok());
+    }
+
+    /// How often each number is answered; 15 often, and before every fault that can come later.
+    #[test]
+    fn random_requests_meet_every_number() {
+        let random = &mut Random::new(6);
+        let expected: [(&str, &[u64]); 3] =
+            [("read", &[0, 2, 3, 4, 5, 15]), ("write", &[0, 2, 4, 5, 9, 10, 15]), ("path_into", &[0, 2, 5, 9])];
+        for (name, numbers) in expected {
+            let entry = LAYER.entries.iter().find(|entry| entry.name == name).unwrap();
+            let (mut counts, mut without) = (BTreeMap::new(), BTreeMap::new());
+            for _ in 0..6_000 {
+                let mut asked = (entry.name, (entry.random)(random));
+                let refusal = answered(&asked)[0].as_number().unwrap();
+                *counts.entry(refusal).or_insert(0) += 1;
+                if (name, refusal) == ("write", 15) {
+                    asked.1[5] = bytes(&[]);
+                    *without.entry(answered(&asked)[0].as_number().unwrap()).or_insert(0) += 1;
+                }
+            }
+            println!("{name}: {counts:?}; 15 without its extensions: {without:?}");
+            assert_eq!(counts.keys().copied().collect::<Vec<u64>>(), numbers, "{name}");
+            assert!(counts.values().all(|count| *count >= 40), "{name}: {counts:?}");
+            assert!(counts.get(&15).is_none_or(|count| *count >= 600), "{name}: {counts:?}");
+            assert!(name != "write" || [0, 5, 9].iter().all(|number| without.contains_key(number)), "{without:?}");
+        }
+        // Two heads of which one is newer, and those of which none is.
+        let empty = (0..1_000).filter(|_| answered(&("newer", random_newer(random))) == [bytes(&[])]).count();
+        assert!((300..700).contains(&empty), "{empty}");
     }
 }
