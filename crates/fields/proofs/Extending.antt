@@ -1,21 +1,19 @@
 -- Lists of extensions: a body that is fine is some extensions in order, and 15 stands where the order ends. Assumes nothing.
 use mathlib.Core.Path.{_≡_, refl, ap, ap₂, sym, subst, _∙_}
-use mathlib.Core.List.{List, [], _∷_, _++_, map, append-assoc, append-nil}
+use mathlib.Core.List.{List, [], _∷_, _++_, append-assoc, append-nil}
 use mathlib.Core.Bool.{Bool, true, false, cond}
 use Prim.Native.Nat.{ℕ, zero, suc, _+_, _-_, _^_, _≤_, _<_}
 use native.Mathlib.Omega.{arith}
 use lib.ListN.{length, take, drop, length-append, length-drop, take-append-drop}
 use lib.Dec.{ltb, eqb}
 use lib.Seq.{take-at, drop-at, drop-drop, length-take-le}
-use borrow.Author.Tests.{le-ltb, ltb-false, ltb-true, eqb-true, eqb-false}
+use borrow.Author.Tests.{le-ltb, ltb-false, eqb-true}
 use Rattle.octets.specs.Bytes.{Bytes, joined}
 use Rattle.octets.specs.Numbers.{be, unbe}
 use Rattle.octets.proofs.Numbers.{be-length, unbe-be, be-unbe, unbe-below}
-use Rattle.octets.proofs.Joining.{joined-append}
 use Rattle.fields.specs.declared.layout.Order.{Order}
 use Rattle.fields.specs.declared.layout.Order.the-variants.{Ordered, Unordered}
 use Rattle.fields.specs.declared.layout.Inner.the-variants.{ExtensionList}
-use Rattle.fields.specs.declared.layout.Step.{Step}
 use Rattle.fields.specs.declared.layout.Step.the-variants.{Size, Not}
 use Rattle.fields.specs.declared.layout.Inside.{Inside}
 use Rattle.fields.specs.declared.layout.Inside.the-variants.{Fine, Wrong}

@@ -1,5 +1,5 @@
 -- What the order of extensions changes in an answer: nothing, or it is 15, at a place at which the same reading without the order goes on. Assumes nothing.
-use mathlib.Core.Path.{_≡_, refl, ap, sym, _∙_}
+use mathlib.Core.Path.{_≡_, refl, sym, _∙_}
 use mathlib.Core.List.{List, [], _∷_, map}
 use mathlib.Core.Bool.{Bool, true, false, cond}
 use Prim.Native.Nat.{ℕ, zero, suc, _+_, _-_, _≤_, _<_}
@@ -10,8 +10,6 @@ use lib.Seq.{length-take-le}
 use borrow.Author.Tests.{ltb-false, eqb-false}
 use Rattle.octets.specs.Numbers.{widthOf, unbe}
 use Rattle.fields.specs.declared.layout.Part.{Part}
-use Rattle.fields.specs.declared.layout.Order.{Order}
-use Rattle.fields.specs.declared.layout.Order.the-variants.{Unordered}
 use Rattle.fields.specs.declared.layout.Inner.{Inner}
 use Rattle.fields.specs.declared.layout.Inner.the-variants.{Opaque, ExtensionList, NodeList}
 use Rattle.fields.specs.declared.layout.Field.{Field}
@@ -107,11 +105,11 @@ fifteen-asked i r at y h e = go (elements-bodies (length r) i 0 r at)
         omega (arith, b)
 
 -- one field
-abbrev BehindField : ℕ → FieldRead → Type 0
+abbrev pub BehindField : ℕ → FieldRead → Type 0
 BehindField p (Found q) = p < q .start + q .len
 BehindField p (Bad x q) = p < q
 
-data Fields (now older : FieldRead) : Type 0 where
+pub data Fields (now older : FieldRead) : Type 0 where
   found : (p : Part) → now ≡ Found p → older ≡ Found p → Fields now older
   refused : (x p : ℕ) → (x ≡ 15 → ⊥) → now ≡ Bad x p → older ≡ Bad x p → Fields now older
   ordered : (p : ℕ) → now ≡ Bad 15 p → BehindField p older → Fields now older
@@ -145,7 +143,7 @@ vector-fields w least most i r at =
         let l : length b ≡ n = length-take-le n (drop w r) (rw (length-drop w r) (ltb-false _ _ hf)) in
         body (omega arith) _ _ h
 
-field-fields : (f : Field) (r : List ℕ) (at : ℕ) → Fields (field f r at) (field (unordered f) r at)
+pub field-fields : (f : Field) (r : List ℕ) (at : ℕ) → Fields (field f r at) (field (unordered f) r at)
 unfolding numberAt
 field-fields (Uint w) r at = go (ltb (length r) (widthOf w))
   where

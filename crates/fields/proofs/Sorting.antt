@@ -1,18 +1,16 @@
 -- What the older rule read is read now exactly if its extensions are in order, and the writer refuses them as the reader does. Assumes nothing.
 use mathlib.Core.Path.{_≡_, refl, ap, ap₂, sym, subst, _∙_}
 use mathlib.Core.Logic.{_↔_}
-use mathlib.Core.List.{List, [], _∷_, _++_, map, append-assoc}
+use mathlib.Core.List.{List, [], _∷_, _++_, map}
 use mathlib.Core.Bool.{Bool, true, false, cond}
-use Prim.Native.Nat.{ℕ, _+_, _-_, _^_, _≤_, _<_}
+use Prim.Native.Nat.{ℕ, _+_, _-_, _^_, _<_}
 use native.Mathlib.Omega.{arith}
-use lib.ListN.{length, take, drop, length-append, length-drop}
+use lib.ListN.{length, take, drop, length-drop}
 use lib.Dec.{ltb}
-use lib.Seq.{take-at, drop-at, drop-drop, length-take-le}
+use lib.Seq.{drop-drop, length-take-le}
 use borrow.Author.Tests.{le-ltb, ltb-false}
 use Rattle.octets.specs.Bytes.{Bytes}
 use Rattle.octets.specs.Numbers.{widthOf, be, unbe}
-use Rattle.octets.specs.declared.number.Width.{Width}
-use Rattle.octets.proofs.Numbers.{be-length, unbe-be}
 use Rattle.fields.specs.declared.layout.Part.{Part}
 use Rattle.fields.specs.declared.layout.Order.{Order}
 use Rattle.fields.specs.declared.layout.Order.the-variants.{Ordered, Unordered}
@@ -25,15 +23,15 @@ use Rattle.fields.specs.declared.layout.FieldRead.the-variants.{Found, B
 use Rattle.fields.specs.declared.layout.Inside.{Inside}
 use Rattle.fields.specs.declared.layout.Inside.the-variants.{Fine, Wrong}
 use Rattle.fields.specs.Checked.{Checked, good, bad}
-use Rattle.fields.specs.Layout.{inside, numberAt, vectorAt, field, whole, next, push, read, bytesAt}
+use Rattle.fields.specs.Layout.{inside, numberAt, vectorAt, field, whole, next, push, read, foundThen, partsFound, bytesAt}
 use Rattle.fields.specs.Write.{wrap, bodySize, wholes, vectorFilled, vectorBytes, fine}
-use Rattle.fields.specs.Extensions.{Extended, OutOfOrder, unordered, FifteenInList, ListOutOfOrder, FieldInOrder, InOrder, ReadByOrder, RefusedAsRead}
+use Rattle.fields.specs.Extensions.{Extended, OutOfOrder, unordered, FifteenInList, ListOutOfOrder, FieldInOrder, InOrder, ReadByOrder, OrderFirst, RefusedAsRead}
 use Rattle.fields.proofs.Answers.{bad-good, good-bad, same-good, same-place, same-number}
 use Rattle.fields.proofs.Places.{inside-some}
 use Rattle.fields.proofs.Founds.{FoundVector, found-vector, found-bad}
-use Rattle.fields.proofs.Vectors.{bytes-take, bytes-drop}
+use Rattle.fields.proofs.Vectors.{bytes-take, bytes-drop, vector-there}
 use Rattle.fields.proofs.Extending.{fine-is-extended, fifteen-is-out-of-order}
-use Rattle.fields.proofs.Ordering.{fifteen-asked}
+use Rattle.fields.proofs.Ordering.{fifteen-asked, Fields, found, refused, ordered, field-fields}
 
 -- the body of a vector of extensions that was found, and a vector whose body is fine
 module _ (w least most : ℕ) (o : Order) (s : List ℕ) (at : ℕ) (p : Part) (bs : Bytes s) where
@@ -115,6 +113,24 @@ in-order-read (f ∷ fs) s at ps bs e x = go (field (unordered f) (drop at s) at
 pub read-by-order : ReadByOrder
 read-by-order fs s at ps bs e = (read-in-order fs s at ps bs, in-order-read fs s at ps bs e)
 
+-- what is refused otherwise is refused behind lists in order
+pub order-first : OrderFirst
+unfolding read partsFound
+order-first [] s at x y bs e h = tt
+order-first (f ∷ fs) s at x y bs e h = go (field f (drop at s) at) (field (unordered f) (drop at s) at) refl (field-fields f (drop at s) at) e (λ p. order-first fs s (p .start + p .len) x y bs)
+  where
+    gs : List Field
+    gs = map unordered fs
+
+    go : (a b : FieldRead) → field f (drop at s) at ≡ a → Fields a b → next a (λ p. push p (read fs s (p .start + p .len))) ≡ bad x y → ((p : Part) → read fs s (p .start + p .len) ≡ bad x y → (x ≡ 15 → ⊥) → InOrder fs s (partsFound gs s (p .start + p .len))) → InOrder (f ∷ fs) s (foundThen b (λ p. partsFound gs s (p .start + p .len)))
+    go a b ha (found p n o) e less = rw o (field-in-order f s at p bs (ha ∙ n), more (read fs s (p .start + p .len)) refl (rw n at e))
+      where
+        more : (c : Checked (List Part)) → read fs s (p .start + p .len) ≡ c → push p c ≡ bad x y → InOrder fs s (partsFound gs s (p .start + p .len))
+        more (good qs) hc e = good-bad x y _ e
+        more (bad u v) hc e = less p (rw hc e) h
+    go a b ha (refused u v w n o) e less = rw o tt
+    go a b ha (ordered v n o) e less = absurd (h (same-number 15 x v y (rw n at e)))
+
 -- 15 stands in a list of extensions
 fifteen-order : (i : Inner) (b : List ℕ) (at y : ℕ) → Bytes b → inside i b at ≡ Wrong 15 y → OutOfOrder b at y
 fifteen-order Opaque b at y bs e = absurd (fifteen-asked Opaque b at y refl e)
@@ -188,16 +204,7 @@ module _ (w least most : ℕ) (o : Order) (v rest : List ℕ) (at : ℕ) (fit : 
   p = record { start = at + w; len = n; value = n }
 
   read-of : vectorAt w least most (ExtensionList o) r at ≡ cond (ltb n least) (Bad 5 at) (cond (ltb most n) (Bad 5 at) (whole (inside (ExtensionList o) v (at + w)) p))
-  unfolding vectorAt
-  read-of =
-      let a : r ≡ be w n ++ (v ++ rest) = append-assoc (be w n) v rest in
-      let u : unbe (take w r) ≡ n = ap (λ (x : List ℕ). unbe (take w x)) a ∙ ap unbe (take-at (be w n) (v ++ rest) w (be-length w n)) ∙ unbe-be w n fit in
-      let d : drop w r ≡ v ++ rest = ap (drop w) a ∙ drop-at (be w n) (v ++ rest) w (be-length w n) in
-      let c : take n (drop w r) ≡ v = ap (take n) d ∙ take-at v rest n refl in
-      let l : length r ≡ w + n + length rest = length-append (be w n ++ v) rest ∙ omega (arith, length-append (be w n) v, be-length w n) in
-      let h : w ≤ length r = omega arith in
-      let g : n ≤ length r - w = omega arith in
-      rw (u, le-ltb _ _ h, le-ltb _ _ g, c)
+  read-of = vector-there w v rest fit least most (ExtensionList o) at
 
   filled-of : vectorFilled w least most (ExtensionList o) v at ≡ cond (ltb n least) (bad 5 at) (cond (ltb most n) (bad 5 at) (fine (inside (ExtensionList o) v (at + w)) (vectorBytes w (ExtensionList o) v)))
   unfolding vectorFilled bodySize wholes wrap

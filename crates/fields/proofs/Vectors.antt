@@ -1,26 +1,26 @@
 -- Vectors of any width, range and body, and numbers of any width: what is found is filled again, and what is filled is found. Assumes nothing.
 use mathlib.Core.Path.{_≡_, refl, ap, sym, subst, _∙_}
 use mathlib.Core.List.{List, _++_, append-assoc, [], _∷_}
-use mathlib.Core.Bool.{true}
+use mathlib.Core.Bool.{true, cond}
 use Prim.Native.Nat.{ℕ, zero, suc, _+_, _-_, _^_, _≤_, _<_}
 use native.Mathlib.Omega.{arith}
+use lib.Dec.{ltb}
 use lib.ListN.{getD, length, take, drop, length-append, length-drop}
 use lib.Seq.{take-at, drop-at, length-take-le, drop-drop, take-add, drop-append-add}
 use borrow.Author.Tests.{le-ltb}
 use Rattle.fields.specs.declared.layout.Part.{Part}
 use Rattle.fields.specs.declared.layout.Inner.{Inner}
-use Rattle.fields.specs.declared.layout.Field.{Field}
 use Rattle.fields.specs.declared.layout.Field.the-variants.{Uint, Vector}
-use Rattle.fields.specs.declared.layout.FieldRead.the-variants.{Found}
+use Rattle.fields.specs.declared.layout.FieldRead.the-variants.{Found, Bad}
 use Rattle.fields.specs.declared.layout.Inside.the-variants.{Fine}
 use Rattle.fields.specs.Checked.{good}
 use Rattle.octets.specs.Bytes.{Bytes, no-bytes, one-byte}
-use Rattle.fields.specs.Layout.{bytesAt, inside, numberAt, vectorAt, field}
+use Rattle.fields.specs.Layout.{bytesAt, inside, whole, numberAt, vectorAt, field}
 use Rattle.octets.specs.declared.number.Width.{Width}
 use Rattle.octets.specs.Numbers.{widthOf, unbe, be}
 use Rattle.fields.specs.Inner.{part}
-use Rattle.fields.specs.Write.{wrap, unwrap, bodySize, wholes, vectorFilled, fill, opened, Value, uint, bytes}
-use Rattle.fields.specs.Claims.{ReadThenFilled, FilledThenRead, Typed, Kept}
+use Rattle.fields.specs.Write.{wrap, unwrap, bodySize, wholes, vectorFilled, opened, uint, bytes}
+use Rattle.fields.specs.Claims.{ReadThenFilled, FilledThenRead, VectorByElements, Kept}
 use Rattle.octets.proofs.Numbers.{be-length, unbe-be, be-unbe}
 use Rattle.fields.proofs.Founds.{found-number, found-vector}
 use Rattle.fields.proofs.Answers.{same-good}
@@ -82,6 +82,31 @@ fill-again (Vector w least most i) s at p bs e =
     let h = found-vector (widthOf w) least most i (drop at s) at p e in
     (vector-again (widthOf w) least most i s at p bs e, rw (h .is) (omega arith))
 
+-- a vector that is there: its body, its length's range, then its elements
+module _ (w : ℕ) (b rest : List ℕ) (fit : length b < 256 ^ w) where
+  abbrev bytes-of : List ℕ
+  bytes-of = (be w (length b) ++ b) ++ rest
+
+  laid-out : bytes-of ≡ be w (length b) ++ (b ++ rest)
+  laid-out = append-assoc (be w (length b)) b rest
+
+  length-there : unbe (take w bytes-of) ≡ length b
+  length-there = ap (λ (x : List ℕ). unbe (take w x)) laid-out ∙ ap unbe (take-at (be w (length b)) (b ++ rest) w (be-length w (length b))) ∙ unbe-be w (length b) fit
+
+  body-there : take (length b) (drop w bytes-of) ≡ b
+  body-there = ap (λ (x : List ℕ). take (length b) (drop w x)) laid-out ∙ ap (take (length b)) (drop-at (be w (length b)) (b ++ rest) w (be-length w (length b))) ∙ take-at b rest (length b) refl
+
+  pub vector-there : (least most : ℕ) (i : Inner) (at : ℕ) → vectorAt w least most i bytes-of at ≡ cond (ltb (length b) least) (Bad 5 at) (cond (ltb most (length b)) (Bad 5 at) (whole (inside i b (at + w)) (record { start = at + w; len = length b; value = length b })))
+  unfolding vectorAt
+  vector-there least most i at =
+      let l : length bytes-of ≡ w + length b + length rest = length-append (be w (length b) ++ b) rest ∙ omega (arith, length-append (be w (length b)) b, be-length w (length b)) in
+      let h : w ≤ length bytes-of = omega arith in
+      let g : length b ≤ length bytes-of - w = omega arith in
+      rw (length-there, le-ltb _ _ h, le-ltb _ _ g, body-there)
+
+pub vector-by-elements : VectorByElements
+vector-by-elements w least most i b rest at low high fit = vector-there (widthOf w) b rest fit least most i at ∙ rw (le-ltb (length b) least low, le-ltb most (length b) high)
+
 -- a number that was written is found, and so is a vector that was filled
 kept-number : (w : Width) (n : ℕ) (front rest : List ℕ) → n < 256 ^ widthOf w → Kept (Uint w) (uint n) front (be (widthOf w) n) rest
 unfolding numberAt opened
@@ -102,27 +127,18 @@ module _ (width : Width) (least most : ℕ) (i : Inner) (v front rest : List ℕ
   w = widthOf width
 
   kept-vector : most < 256 ^ w → least ≤ bodySize i (length v) → bodySize i (length v) ≤ most → wholes i (length v) ≡ true → inside i (wrap i v) (length front + w) ≡ Fine → Kept (Vector width least most i) (bytes v) front (be w (length (wrap i v)) ++ wrap i v) rest
-  unfolding vectorAt opened
+  unfolding opened
   kept-vector fit low high round fin =
       let b = wrap i v in
       let m = length (wrap i v) in
       let r = (be w (length (wrap i v)) ++ wrap i v) ++ rest in
       let o = value i v round in
-      let lw : length (be w m) ≡ w = be-length w m in
-      let a : r ≡ be w m ++ (b ++ rest) = append-assoc (be w m) b rest in
-      let t : take w r ≡ be w m = rw a (take-at (be w m) (b ++ rest) w lw) in
-      let d : drop w r ≡ b ++ rest = rw a (drop-at (be w m) (b ++ rest) w lw) in
-      let u : unbe (take w r) ≡ m = ap unbe t ∙ unbe-be w m (omega (arith, o .size)) in
-      let c : take m (drop w r) ≡ b = rw d (take-at b rest m refl) in
-      let l : length r ≡ w + m + length rest = length-append (be w m ++ b) rest ∙ omega (arith, length-append (be w m) b) in
-      let h₁ : w ≤ length r = omega arith in
-      let h₂ : least ≤ m = omega (arith, o .size) in
-      let h₃ : m ≤ most = omega (arith, o .size) in
-      let h₄ : m ≤ length r - w = omega arith in
+      let f : m < 256 ^ w = omega (arith, o .size) in
+      let c = body-there w b rest f in
       record {
         place = record { start = length front + w; len = m; value = m };
-        found = rw (u, le-ltb _ _ h₁, le-ltb _ _ h₂, le-ltb _ _ h₃, le-ltb _ _ h₄, c, fin);
-        end = omega (arith, length-append (be w m) b);
+        found = vector-by-elements width least most i b rest (length front) (omega (arith, o .size)) (omega (arith, o .size)) f ∙ rw fin;
+        end = omega (arith, length-append (be w m) b, be-length w m);
         same = ap (λ (x : List ℕ). bytes (unwrap i (take m x))) (drop-append-add front r w) ∙ ap (λ (x : List ℕ). bytes (unwrap i x)) c ∙ ap bytes (o .again);
       }
 

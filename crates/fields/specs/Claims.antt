@@ -4,13 +4,15 @@ use mathlib.Core.Path.{_≡_}
 use mathlib.Core.List.{List, [], _∷_, _++_}
 use lib.ListN.{length, getD, take, drop}
 use Rattle.octets.specs.Bytes.{Bytes, joined}
-use Rattle.octets.specs.Numbers.{widthOf}
+use Rattle.octets.specs.declared.number.Width.{Width}
+use Rattle.octets.specs.Numbers.{widthOf, be}
 use Rattle.fields.specs.declared.layout.Part.{Part}
+use Rattle.fields.specs.declared.layout.Inner.{Inner}
 use Rattle.fields.specs.declared.layout.Field.{Field}
 use Rattle.fields.specs.declared.layout.Field.the-variants.{Uint, Vector}
 use Rattle.fields.specs.declared.layout.FieldRead.the-variants.{Found}
 use Rattle.fields.specs.Checked.{good, bad}
-use Rattle.fields.specs.Layout.{field, read, partsFound, bytesAt}
+use Rattle.fields.specs.Layout.{inside, whole, field, read, partsFound, bytesAt}
 use Rattle.fields.specs.Write.{Value, uint, bytes, fill, Filled, write, opened, values}
 use Rattle.fields.specs.Path.{encoded, pathAt, copyPath}
 
@@ -37,6 +39,13 @@ pub record Kept (f : Field) (v : Value) (front b rest : List ℕ) : Type 0 where
 abbrev pub FilledThenRead : Type 0
 FilledThenRead =
     (f : Field) (v : Value) (front b rest : List ℕ) → Typed f v → fill f v (length front) ≡ good b → Kept f v front b rest
+
+-- a vector that is there, with a length in its range, is judged by its elements alone, whatever comes behind it
+abbrev pub VectorByElements : Type 0
+VectorByElements =
+    (w : Width) (least most : ℕ) (i : Inner) (b rest : List ℕ) (at : ℕ) → least ≤ length b → length b ≤ most → length b < 256 ^ widthOf w
+    → field (Vector w least most i) ((be (widthOf w) (length b) ++ b) ++ rest) at
+    ≡ whole (inside i b (at + widthOf w)) (record { start = at + widthOf w; len = length b; value = length b })
 
 -- over any layout: what is read, written again, is the same bytes
 abbrev pub LayoutAgain : Type 0

@@ -17,7 +17,7 @@ use Rattle.fields.specs.declared.layout.Field.the-variants.{Uint, Vector
 use Rattle.fields.specs.declared.layout.FieldRead.the-variants.{Bad}
 use Rattle.fields.specs.declared.layout.Inside.the-variants.{Fine, Wrong}
 use Rattle.fields.specs.Checked.{Checked, good, bad}
-use Rattle.fields.specs.Layout.{inside, field, read, bytesAt}
+use Rattle.fields.specs.Layout.{inside, field, read, partsFound, bytesAt}
 use Rattle.fields.specs.Write.{bytes, fill, laid}
 use Rattle.fields.specs.Claims.{Each}
 
@@ -130,6 +130,11 @@ abbrev pub ReadByOrder : Type 0
 ReadByOrder =
     (fs : List Field) (s : List ℕ) (at : ℕ) (ps : List Part) → Bytes s → read (map unordered fs) s at ≡ good ps
     → (read fs s at ≡ good ps) ↔ InOrder fs s ps
+
+-- every other refusal comes where all lists found before it, by the older rule, are in order
+abbrev pub OrderFirst : Type 0
+OrderFirst =
+    (fs : List Field) (s : List ℕ) (at x y : ℕ) → Bytes s → read fs s at ≡ bad x y → x ≢ 15 → InOrder fs s (partsFound (map unordered fs) s at)
 
 -- the writer refuses extensions exactly as the reader refuses what they would be written as, whatever comes behind
 abbrev pub RefusedAsRead : Type 0

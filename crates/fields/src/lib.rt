@@ -9,15 +9,16 @@ pub mod path;
 pub mod reading;
 pub mod writing;
 
-ghost use Rattle.fields.specs.Claims.{ReadThenFilled, FilledThenRead, LayoutAgain, LayoutBack, FieldsWithin, RefusedWithin, FoundBefore};
+ghost use Rattle.fields.specs.Claims.{ReadThenFilled, FilledThenRead, VectorByElements, LayoutAgain, LayoutBack, FieldsWithin, RefusedWithin, FoundBefore};
 ghost use Rattle.fields.specs.Claims.{CopiedIsJoined, JoinedIsCopied, CopyKeeps};
 ghost use Rattle.fields.specs.Extensions.{FineIsExtended, OneList, FifteenIsOutOfOrder, StillRead, RefusedByOrder, FifteenInList};
-ghost use Rattle.fields.specs.Extensions.{ReadByOrder, RefusedAsRead};
+ghost use Rattle.fields.specs.Extensions.{ReadByOrder, OrderFirst, RefusedAsRead};
 
 // What is proved of fields and layouts beside the functions' own promises. It does nothing.
 pub fn claims()
     ensures read_then_filled { λ _. ⌜ ReadThenFilled ⌝ }
     ensures filled_then_read { λ _. ⌜ FilledThenRead ⌝ }
+    ensures vector_by_elements { λ _. ⌜ VectorByElements ⌝ }
     ensures layout_again { λ _. ⌜ LayoutAgain ⌝ }
     ensures layout_back { λ _. ⌜ LayoutBack ⌝ }
     ensures fields_within { λ _. ⌜ FieldsWithin ⌝ }
@@ -33,5 +34,6 @@ pub fn claims()
     ensures refused_by_order { λ _. ⌜ RefusedByOrder ⌝ }
     ensures fifteen_in_list { λ _. ⌜ FifteenInList ⌝ }
     ensures read_by_order { λ _. ⌜ ReadByOrder ⌝ }
+    ensures order_first { λ _. ⌜ OrderFirst ⌝ }
     ensures refused_as_read { λ _. ⌜ RefusedAsRead ⌝ }
 {}

@@ -27,7 +27,7 @@ use Rattle.item.specs.declared.reader.Item.{Item}
 use Rattle.item.specs.declared.reader.Item.the-variants.{Entry as entry, Receipt as receipt, SignedHead as signedHead, Consistency as consistency}
 use Rattle.item.specs.declared.reader.Item.the-variants.{Inclusion as inclusion, Page as page, Refused as refused}
 use Rattle.item.specs.Table.{namesOf, layoutOf, metIn, types, find}
-use Rattle.item.specs.Item.{Reading, item, reading, readBy, readItem, Meets, metAfter, metBy}
+use Rattle.item.specs.Item.{Reading, item, reading, readBy, Meets, metAfter, metBy}
 use Rattle.item.specs.Claims.{Meeting, whole, typeBytes, named, after, NamesItsField}
 use Rattle.item.proofs.Rows.{layout-length, count-small}
 use Rattle.item.proofs.Items.{find-place}

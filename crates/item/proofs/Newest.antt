@@ -1,4 +1,4 @@
--- The empty part comes back only where neither head is chosen. Assumes nothing.
+-- The empty part comes back only where neither head is chosen, and a refused item is not. Assumes nothing.
 use mathlib.Core.Path.{_≡_, refl, ap, sym, _∙_}
 use mathlib.Core.List.{List, []}
 use Prim.Native.Nat.{ℕ, _≤_}
@@ -13,7 +13,7 @@ use Rattle.item.specs.declared.heads.Choice.the-variants.{First, Second,
 use Rattle.fields.specs.Checked.{Checked, good, bad}
 use Rattle.item.specs.Item.{Reading, readItem}
 use Rattle.item.specs.Newer.{headOf, chosen, Returns}
-use Rattle.item.specs.Claims.{EmptyIsNeither}
+use Rattle.item.specs.Claims.{EmptyIsNeither, RefusedIsNeither}
 use Rattle.item.proofs.Items.{two-bytes}
 
 -- a readable head is not empty
@@ -36,3 +36,10 @@ empty-is-neither a b r h e = go (headOf (readItem (a .now))) (headOf (readItem (
     go Unreadable y hx hy h = refl
     go (Read l t z) Unreadable hx hy h = refl
     go (Read l t z) (Read m u v) hx hy h = only _ a b r h e (some (a .now) l t z hx) (some (b .now) m u v hy)
+
+pub refused-is-neither : RefusedIsNeither
+refused-is-neither a b x y e = (rw e, go (headOf (readItem b)))
+  where
+    go : (h : Head) → chosen b a h (headOf (readItem a)) ≡ Neither
+    go Unreadable = refl
+    go (Read l t z) = rw e

@@ -7,7 +7,7 @@ use Prim.Native.Nat.{ℕ}
 use native.Mathlib.Omega.{arith}
 use lib.ListN.{length, take, length-map}
 use lib.Dec.{ltb, eqb}
-use Rattle.octets.specs.Bytes.{Bytes}
+use borrow.Author.Tests.{le-ltb}
 use Rattle.octets.specs.Limits.{mostItem}
 use Rattle.octets.specs.Numbers.{unbe}
 use Rattle.fields.specs.declared.layout.Part.{Part}
@@ -17,7 +17,7 @@ use Rattle.fields.specs.Checked.{Checked, good, bad, then}
 use Rattle.fields.specs.Layout.{read, bytesAt}
 use Rattle.fields.specs.Claims.{Each}
 use Rattle.fields.specs.Extensions.{Extended, unordered, GoesOn, ListOutOfOrder, InOrder}
-use Rattle.fields.proofs.Answers.{bad-good, good-bad, same-good, same-place, same-number}
+use Rattle.fields.proofs.Answers.{bad-good, good-bad, same-good, same-number}
 use Rattle.fields.proofs.Resuming.{firsts}
 use Rattle.fields.proofs.Within.{read-count}
 use Rattle.fields.proofs.Ordering as fields
@@ -28,7 +28,7 @@ use Rattle.item.specs.Table.{TypeRow, namesOf, layoutOf, types, find}
 use Rattle.item.specs.Item.{Reading, item, readBy, readItem}
 use Rattle.item.proofs.Rows.{layout-length}
 use Rattle.item.proofs.Items.{all-firsts}
-use Rattle.item.specs.Claims.{olderItem, StillRead, RefusedByOrder, FifteenInList, extensionsIn, ReadByOrder}
+use Rattle.item.specs.Claims.{olderItem, StillRead, RefusedByOrder, FifteenInList, extensionsIn, ReadByOrder, OrderFirst}
 
 find-number : (rs : List TypeRow) (k x at : ℕ) → find rs k ≡ bad x at → x ≡ 4
 unfolding find
@@ -127,3 +127,10 @@ read-by-order s r bs e = go (rules s)
           (λ z. rw (g .1) (w .0 (f .0 (line-good c k (read (layoutOf c) s 2) r (sym n ∙ z) .0)))),
           λ i. n ∙ ap (λ (a : Checked (List Part)). then a (item c k)) (f .1 (w .1 (rw (g .1) at i)) ∙ sym (g .0)) ∙ sym o ∙ e,
         )
+
+pub order-first : OrderFirst
+unfolding readBy
+order-first s c x y bs short typed known e h =
+    let k = unbe (take 2 s) in
+    let r : readItem s ≡ then (read (layoutOf c) s 2) (item c k) = rw (le-ltb mostItem (length s) short, le-ltb (length s) 2 typed, known) in
+    sorted.order-first (layoutOf c) s 2 x y bs (line-bad c k (read (layoutOf c) s 2) x y (sym r ∙ e)) h

@@ -1,11 +1,12 @@
 -- What is proved of whole items beside the promises, in the words of the second demand. Assumes nothing.
-use Prim.Native.Nat.{ℕ, _+_, _*_, _^_, _≤_, _<_}
+use Prim.Native.Nat.{ℕ, _+_, _^_, _≤_, _<_}
 use mathlib.Core.Path.{_≡_}
 use mathlib.Core.Logic.{_↔_, _≢_}
 use mathlib.Core.List.{List, [], _∷_, map}
 use lib.ListN.{length, getD, take, drop}
 use denote.Ref.{RefT}
 use Rattle.octets.specs.Bytes.{Bytes}
+use Rattle.octets.specs.Limits.{mostItem}
 use Rattle.fields.specs.declared.layout.Part.{Part}
 use Rattle.fields.specs.declared.layout.Order.the-variants.{Ordered}
 use Rattle.fields.specs.Checked.{Checked, good, bad}
@@ -14,7 +15,7 @@ use Rattle.fields.specs.Write.{values}
 use Rattle.fields.specs.Effect.{wrote}
 use Rattle.fields.specs.Path.{pathAt, copyPath}
 use Rattle.fields.specs.Claims.{Each, PathCopied}
-use Rattle.fields.specs.Extensions.{Extended, unordered, GoesOn, ListOutOfOrder}
+use Rattle.fields.specs.Extensions.{Extended, unordered, GoesOn, ListOutOfOrder, InOrder}
 use Rattle.fields.specs.Answers.{noPart}
 use Rattle.octets.specs.Numbers.{unbe}
 use Rattle.item.specs.declared.table.Name.the-variants.{Timestamp}
@@ -192,3 +193,13 @@ abbrev pub ReadByOrder : Type 0
 ReadByOrder =
     (s : List ℕ) (r : Reading) → Bytes s → olderItem s ≡ good r
     → (readItem s ≡ good r) ↔ Each (λ p. Extended Ordered (bytesAt s p)) (extensionsIn (r .case) (r .fields))
+
+-- 15 comes before anything later: where an item of a known type is refused otherwise, all lists found before it, by the older rule, are in order
+abbrev pub OrderFirst : Type 0
+OrderFirst =
+    (s : List ℕ) (c : Case) (x y : ℕ) → Bytes s → length s ≤ mostItem → 2 ≤ length s → find types (unbe (take 2 s)) ≡ good c → readItem s ≡ bad x y
+    → x ≢ 15 → InOrder (layoutOf c) s (partsFound (map unordered (layoutOf c)) s 2)
+
+-- of two heads neither is chosen where one is refused, with 15 too
+abbrev pub RefusedIsNeither : Type 0
+RefusedIsNeither = (a b : List ℕ) (x y : ℕ) → readItem a ≡ bad x y → (which a b ≡ Neither) × (which b a ≡ Neither)

@@ -10,7 +10,7 @@ mod writer;
 
 ghost use Rattle.item.specs.Claims.{ReadThenWritten, ReadGives, WrittenThenRead, WriterKeeps, RefusedWithin, FieldsWithin, EmptyIsNeither};
 ghost use Rattle.item.specs.Claims.{NamesItsField, PathIsSaid, TakenThenWritten, WrittenThenTaken};
-ghost use Rattle.item.specs.Claims.{StillRead, RefusedByOrder, FifteenInList, ReadByOrder};
+ghost use Rattle.item.specs.Claims.{StillRead, RefusedByOrder, FifteenInList, ReadByOrder, OrderFirst, RefusedIsNeither};
 pub use heads::newer;
 pub use reader::Item;
 pub use reader::read;
@@ -36,4 +36,6 @@ pub fn claims()
     ensures refused_by_order { λ _. ⌜ RefusedByOrder ⌝ }
     ensures fifteen_in_list { λ _. ⌜ FifteenInList ⌝ }
     ensures read_by_order { λ _. ⌜ ReadByOrder ⌝ }
+    ensures order_first { λ _. ⌜ OrderFirst ⌝ }
+    ensures refused_is_neither { λ _. ⌜ RefusedIsNeither ⌝ }
 {}
