@@ -9,8 +9,8 @@ pub mod path;
 pub mod reading;
 pub mod writing;
 
-ghost use Rattle.fields.specs.Claims.{ReadThenFilled, FilledThenRead, VectorByElements, LayoutAgain, LayoutBack, FieldsWithin, RefusedWithin, FoundBefore};
-ghost use Rattle.fields.specs.Claims.{CopiedIsJoined, JoinedIsCopied, CopyKeeps};
+ghost use Rattle.fields.specs.Claims.{ReadThenFilled, FilledThenRead, VectorByElements, LayoutAgain, LayoutBack, FieldsWithin, RefusedWithin};
+ghost use Rattle.fields.specs.Claims.{FoundBefore, CopiedIsJoined, JoinedIsCopied, CopyKeeps};
 ghost use Rattle.fields.specs.Extensions.{FineIsExtended, OneList, FifteenIsOutOfOrder, StillRead, RefusedByOrder, FifteenInList};
 ghost use Rattle.fields.specs.Extensions.{ReadByOrder, OrderFirst, RefusedAsRead};
 

@@ -1,6 +1,6 @@
 // Log items (RFC 9162, sections 4.4 to 4.12, and our page item): a table over the crate of fields, a reader that answers where each field lies, a writer
-// into a lent buffer, and the newer of two signed heads. Nothing is copied by the reader and nothing judged but lengths. A path that was read is joined as
-// the verdicts take it by `fields::path::path_into`.
+// into a lent buffer, and the newer of two signed heads. Nothing is copied by the reader, and nothing judged but lengths and the order of extensions. A path
+// that was read is joined as the verdicts take it by `fields::path::path_into`.
 //
 // table: which fields each type has    reader: a whole item    writer: the same, the other way    heads: the newer of two
 mod heads;
