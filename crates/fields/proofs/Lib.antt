@@ -11,6 +11,7 @@ pub mod Rounds
 pub mod Within
 pub mod Ordering
 pub mod Sorting
+pub mod Refusing
 pub mod Numbered
 pub mod Resuming
 pub mod Filling

@@ -1,16 +1,15 @@
--- What the older rule read is read now exactly if its extensions are in order, and the writer refuses them as the reader does. Assumes nothing.
+-- What the older rule read is read now exactly if its extensions are in order, and 15 comes before anything later. Assumes nothing.
 use mathlib.Core.Path.{_≡_, refl, ap, ap₂, sym, subst, _∙_}
-use mathlib.Core.Logic.{_↔_}
-use mathlib.Core.List.{List, [], _∷_, _++_, map}
+use mathlib.Core.List.{List, [], _∷_, map}
 use mathlib.Core.Bool.{Bool, true, false, cond}
-use Prim.Native.Nat.{ℕ, _+_, _-_, _^_, _<_}
+use Prim.Native.Nat.{ℕ, _+_, _-_}
 use native.Mathlib.Omega.{arith}
 use lib.ListN.{length, take, drop, length-drop}
 use lib.Dec.{ltb}
 use lib.Seq.{drop-drop, length-take-le}
 use borrow.Author.Tests.{le-ltb, ltb-false}
 use Rattle.octets.specs.Bytes.{Bytes}
-use Rattle.octets.specs.Numbers.{widthOf, be, unbe}
+use Rattle.octets.specs.Numbers.{widthOf, unbe}
 use Rattle.fields.specs.declared.layout.Part.{Part}
 use Rattle.fields.specs.declared.layout.Order.{Order}
 use Rattle.fields.specs.declared.layout.Order.the-variants.{Ordered, Unordered}
@@ -24,12 +23,13 @@ use Rattle.fields.specs.declared.layout.Inside.{Inside}
 use Rattle.fields.specs.declared.layout.Inside.the-variants.{Fine, Wrong}
 use Rattle.fields.specs.Checked.{Checked, good, bad}
 use Rattle.fields.specs.Layout.{inside, numberAt, vectorAt, field, whole, next, push, read, foundThen, partsFound, bytesAt}
-use Rattle.fields.specs.Write.{wrap, bodySize, wholes, vectorFilled, vectorBytes, fine}
-use Rattle.fields.specs.Extensions.{Extended, OutOfOrder, unordered, FifteenInList, ListOutOfOrder, FieldInOrder, InOrder, ReadByOrder, OrderFirst, RefusedAsRead}
+use Rattle.fields.specs.Write.{fine}
+use Rattle.fields.specs.Extensions.{Extended, OutOfOrder, unordered, FifteenInList, ListOutOfOrder, FieldInOrder, InOrder, ReadByOrder, OrderFirst}
 use Rattle.fields.proofs.Answers.{bad-good, good-bad, same-good, same-place, same-number}
 use Rattle.fields.proofs.Places.{inside-some}
 use Rattle.fields.proofs.Founds.{FoundVector, found-vector, found-bad}
-use Rattle.fields.proofs.Vectors.{bytes-take, bytes-drop, vector-there}
+use Rattle.fields.proofs.Vectors.{bytes-take, bytes-drop}
+use Rattle.fields.proofs.Bodies.{value}
 use Rattle.fields.proofs.Extending.{fine-is-extended, fifteen-is-out-of-order}
 use Rattle.fields.proofs.Ordering.{fifteen-asked, Fields, found, refused, ordered, field-fields}
 
@@ -191,49 +191,3 @@ fifteen-in-list (f ∷ fs) s at y bs e = go (field f (drop at s) at) refl e (λ 
         more : (a : Checked (List Part)) → read fs s (p .start + p .len) ≡ a → push p a ≡ bad 15 y → ListOutOfOrder s y
         more (good qs) ha e = good-bad 15 y _ e
         more (bad u v) ha e = less p (rw ha e)
-
--- the writer and the reader of what it would write
-module _ (w least most : ℕ) (o : Order) (v rest : List ℕ) (at : ℕ) (fit : length v < 256 ^ w) where
-  abbrev n : ℕ
-  n = length v
-
-  abbrev r : List ℕ
-  r = (be w n ++ v) ++ rest
-
-  abbrev p : Part
-  p = record { start = at + w; len = n; value = n }
-
-  read-of : vectorAt w least most (ExtensionList o) r at ≡ cond (ltb n least) (Bad 5 at) (cond (ltb most n) (Bad 5 at) (whole (inside (ExtensionList o) v (at + w)) p))
-  read-of = vector-there w v rest fit least most (ExtensionList o) at
-
-  filled-of : vectorFilled w least most (ExtensionList o) v at ≡ cond (ltb n least) (bad 5 at) (cond (ltb most n) (bad 5 at) (fine (inside (ExtensionList o) v (at + w)) (vectorBytes w (ExtensionList o) v)))
-  unfolding vectorFilled bodySize wholes wrap
-  filled-of = refl
-
-  alike : (x y : ℕ) → (vectorFilled w least most (ExtensionList o) v at ≡ bad x y) ↔ (vectorAt w least most (ExtensionList o) r at ≡ Bad x y)
-  alike x y = ((λ e. read-of ∙ go (ltb n least) (ltb most n) (inside (ExtensionList o) v (at + w)) (sym filled-of ∙ e)), λ e. filled-of ∙ back (ltb n least) (ltb most n) (inside (ExtensionList o) v (at + w)) (sym read-of ∙ e))
-    where
-      b : List ℕ
-      b = vectorBytes w (ExtensionList o) v
-
-      same : (u z : ℕ) → _≡_ {A = Checked (List ℕ)} (bad u z) (bad x y) → Bad u z ≡ Bad x y
-      same u z e = cc
-
-      go : (c d : Bool) (i : Inside) → cond c (bad 5 at) (cond d (bad 5 at) (fine i b)) ≡ bad x y → cond c (Bad 5 at) (cond d (Bad 5 at) (whole i p)) ≡ Bad x y
-      go true d i e = same 5 at e
-      go false true i e = same 5 at e
-      go false false Fine e = good-bad x y b e
-      go false false (Wrong u z) e = same u z e
-
-      other : (u z : ℕ) → Bad u z ≡ Bad x y → _≡_ {A = Checked (List ℕ)} (bad u z) (bad x y)
-      other u z e = cc
-
-      back : (c d : Bool) (i : Inside) → cond c (Bad 5 at) (cond d (Bad 5 at) (whole i p)) ≡ Bad x y → cond c (bad 5 at) (cond d (bad 5 at) (fine i b)) ≡ bad x y
-      back true d i e = other 5 at e
-      back false true i e = other 5 at e
-      back false false Fine e = found-bad x y p e
-      back false false (Wrong u z) e = other u z e
-
-pub refused-as-read : RefusedAsRead
-unfolding wrap
-refused-as-read w least most o v rest at x y fit = alike (widthOf w) least most o v rest at fit x y

@@ -18,8 +18,8 @@ use Rattle.fields.specs.declared.layout.FieldRead.the-variants.{Bad}
 use Rattle.fields.specs.declared.layout.Inside.the-variants.{Fine, Wrong}
 use Rattle.fields.specs.Checked.{Checked, good, bad}
 use Rattle.fields.specs.Layout.{inside, field, read, partsFound, bytesAt}
-use Rattle.fields.specs.Write.{bytes, fill, laid}
-use Rattle.fields.specs.Claims.{Each}
+use Rattle.fields.specs.Write.{bytes, fill, laid, Filled, write}
+use Rattle.fields.specs.Claims.{Each, AllTyped, layout}
 
 -- an extension (section 4.6): extension_type in 2 bytes, extension_data <0..2^16-1>
 pub record Extension : Type 0 where
@@ -142,3 +142,14 @@ RefusedAsRead =
     (w : Width) (least most : ℕ) (o : Order) (v rest : List ℕ) (at x y : ℕ) → length v < 256 ^ widthOf w
     → (fill (Vector w least most (ExtensionList o)) (bytes v) at ≡ bad x y)
     ↔ (field (Vector w least most (ExtensionList o)) (laid (Vector w least most (ExtensionList o)) (bytes v) ++ rest) at ≡ Bad x y)
+
+-- the bytes of all fields, each as it is laid out, whether its value is refused or not
+abbrev pub allLaid : List Filled → List ℕ
+allLaid [] = []
+allLaid (f ∷ fs) = laid (f .field) (f .value) ++ allLaid fs
+
+-- over any layout: an element that the writer refuses is the first thing that the reader refuses in what would be written
+abbrev pub LayoutRefusedAsRead : Type 0
+LayoutRefusedAsRead =
+    (fs : List Filled) (front : List ℕ) (x y : ℕ) → AllTyped fs → write fs (length front) ≡ bad x y → x ≢ 5 → x ≢ 10
+    → read (layout fs) (front ++ allLaid fs) (length front) ≡ bad x y

@@ -12,7 +12,7 @@ pub mod writing;
 ghost use Rattle.fields.specs.Claims.{ReadThenFilled, FilledThenRead, VectorByElements, LayoutAgain, LayoutBack, FieldsWithin, RefusedWithin};
 ghost use Rattle.fields.specs.Claims.{FoundBefore, CopiedIsJoined, JoinedIsCopied, CopyKeeps};
 ghost use Rattle.fields.specs.Extensions.{FineIsExtended, OneList, FifteenIsOutOfOrder, StillRead, RefusedByOrder, FifteenInList};
-ghost use Rattle.fields.specs.Extensions.{ReadByOrder, OrderFirst, RefusedAsRead};
+ghost use Rattle.fields.specs.Extensions.{ReadByOrder, OrderFirst, RefusedAsRead, LayoutRefusedAsRead};
 
 // What is proved of fields and layouts beside the functions' own promises. It does nothing.
 pub fn claims()
@@ -36,4 +36,5 @@ pub fn claims()
     ensures read_by_order { λ _. ⌜ ReadByOrder ⌝ }
     ensures order_first { λ _. ⌜ OrderFirst ⌝ }
     ensures refused_as_read { λ _. ⌜ RefusedAsRead ⌝ }
+    ensures layout_refused_as_read { λ _. ⌜ LayoutRefusedAsRead ⌝ }
 {}

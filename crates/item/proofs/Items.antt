@@ -132,11 +132,11 @@ typed k n t z Signature = omega arith
 typed k n t z Path = omega arith
 typed k n t z Body = omega arith
 
-all-typed : (k : ℕ) (n : Numbers) (t : Vectors) → Sized k n → (ns : List Name) → AllTyped (filled n t ns)
+pub all-typed : (k : ℕ) (n : Numbers) (t : Vectors) → Sized k n → (ns : List Name) → AllTyped (filled n t ns)
 all-typed k n t z [] = no-fields
 all-typed k n t z (x ∷ ns) = one-field (typed k n t z x) (all-typed k n t z ns)
 
-layout-filled : (n : Numbers) (t : Vectors) (ns : List Name) → layout (filled n t ns) ≡ map fieldOf ns
+pub layout-filled : (n : Numbers) (t : Vectors) (ns : List Name) → layout (filled n t ns) ≡ map fieldOf ns
 layout-filled n t [] = refl
 layout-filled n t (x ∷ ns) = ap (λ (l : List Field). fieldOf x ∷ l) (layout-filled n t ns)
 

@@ -1,34 +1,39 @@
 -- What the order of extensions changes in the answer on an item, from the laws over any layout. Assumes nothing.
-use mathlib.Core.Path.{_≡_, refl, ap, sym, subst, _∙_}
+use mathlib.Core.Path.{_≡_, refl, ap, ap₂, sym, subst, _∙_}
 use mathlib.Core.Logic.{_↔_}
-use mathlib.Core.List.{List, [], _∷_, map}
+use mathlib.Core.List.{List, [], _∷_, _++_, map}
 use mathlib.Core.Bool.{Bool, true, false, cond}
-use Prim.Native.Nat.{ℕ}
+use Prim.Native.Nat.{ℕ, _≤_}
 use native.Mathlib.Omega.{arith}
-use lib.ListN.{length, take, length-map}
+use lib.ListN.{length, take, length-map, length-append}
+use lib.Seq.{take-at}
 use lib.Dec.{ltb, eqb}
 use borrow.Author.Tests.{le-ltb}
 use Rattle.octets.specs.Limits.{mostItem}
-use Rattle.octets.specs.Numbers.{unbe}
+use Rattle.octets.specs.Numbers.{be, unbe}
+use Rattle.octets.proofs.Numbers.{be-length, unbe-be}
 use Rattle.fields.specs.declared.layout.Part.{Part}
 use Rattle.fields.specs.declared.layout.Field.{Field}
 use Rattle.fields.specs.declared.layout.Order.the-variants.{Ordered}
 use Rattle.fields.specs.Checked.{Checked, good, bad, then}
 use Rattle.fields.specs.Layout.{read, bytesAt}
+use Rattle.fields.specs.Write.{Filled, join, write}
+use Rattle.fields.specs.Effect.{Effect, effect, unwritten, wrote}
 use Rattle.fields.specs.Claims.{Each}
-use Rattle.fields.specs.Extensions.{Extended, unordered, GoesOn, ListOutOfOrder, InOrder}
-use Rattle.fields.proofs.Answers.{bad-good, good-bad, same-good, same-number}
+use Rattle.fields.specs.Extensions.{Extended, unordered, GoesOn, ListOutOfOrder, InOrder, allLaid}
+use Rattle.fields.proofs.Answers.{bad-good, good-bad, same-good, same-place, same-number}
 use Rattle.fields.proofs.Resuming.{firsts}
 use Rattle.fields.proofs.Within.{read-count}
 use Rattle.fields.proofs.Ordering as fields
 use Rattle.fields.proofs.Sorting as sorted
+use Rattle.fields.proofs.Refusing.{layout-refused-as-read}
 use Rattle.item.specs.declared.table.Case.{Case}
 use Rattle.item.specs.declared.table.Case.the-variants.{Entry, Receipt, SignedHead, Consistency, Inclusion, Page}
 use Rattle.item.specs.Table.{TypeRow, namesOf, layoutOf, types, find}
-use Rattle.item.specs.Item.{Reading, item, readBy, readItem}
+use Rattle.item.specs.Item.{Reading, item, readBy, readItem, filled, writeItem}
 use Rattle.item.proofs.Rows.{layout-length}
-use Rattle.item.proofs.Items.{all-firsts}
-use Rattle.item.specs.Claims.{olderItem, StillRead, RefusedByOrder, FifteenInList, extensionsIn, ReadByOrder, OrderFirst}
+use Rattle.item.proofs.Items.{all-firsts, all-typed, layout-filled}
+use Rattle.item.specs.Claims.{olderItem, StillRead, RefusedByOrder, FifteenInList, extensionsIn, ReadByOrder, OrderFirst, RefusedAsRead}
 
 find-number : (rs : List TypeRow) (k x at : ℕ) → find rs k ≡ bad x at → x ≡ 4
 unfolding find
@@ -134,3 +139,35 @@ order-first s c x y bs short typed known e h =
     let k = unbe (take 2 s) in
     let r : readItem s ≡ then (read (layoutOf c) s 2) (item c k) = rw (le-ltb mostItem (length s) short, le-ltb (length s) 2 typed, known) in
     sorted.order-first (layoutOf c) s 2 x y bs (line-bad c k (read (layoutOf c) s 2) x y (sym r ∙ e)) h
+
+pub refused-as-read : RefusedAsRead
+unfolding readBy writeItem
+refused-as-read k n t out c y z known short e = go (write fs 2) refl (rw known at e)
+  where
+    fs : List Filled
+    fs = filled n t (namesOf c)
+
+    b : List ℕ
+    b = be 2 k ++ allLaid fs
+
+    l : length (be 2 k) ≡ 2
+    l = be-length 2 k
+
+    reads : write fs 2 ≡ bad 15 y → read (layoutOf c) b 2 ≡ bad 15 y
+    reads h =
+        let r = layout-refused-as-read fs (be 2 k) 15 y (all-typed k n t z (namesOf c)) (rw l h) (λ q. omega arith) (λ q. omega arith) in
+        rw (layout-filled n t (namesOf c), l) at r
+
+    there : write fs 2 ≡ bad 15 y → readItem b ≡ bad 15 y
+    there h =
+        let two : 2 ≤ length b = omega (arith, l, length-append (be 2 k) (allLaid fs)) in
+        let u : unbe (take 2 b) ≡ k = ap unbe (take-at (be 2 k) (allLaid fs) 2 l) ∙ unbe-be 2 k (z .kind) in
+        rw (le-ltb mostItem (length b) short, le-ltb (length b) 2 two, u, known, reads h)
+
+    no-room : (q : Bool) (a : List ℕ) → cond {A = Effect} q (unwritten 9 0 out) (wrote a out) .answer ≡ bad 15 y → ⊥
+    no-room true a e = let q = same-number 9 15 0 y e in omega arith
+    no-room false a e = good-bad 15 y _ e
+
+    go : (a : Checked (List ℕ)) → write fs 2 ≡ a → effect out (join (be 2 k) a) .answer ≡ bad 15 y → readItem b ≡ bad 15 y
+    go (good d) ha e = absurd (no-room (ltb (length out) (length (be 2 k ++ d))) (be 2 k ++ d) e)
+    go (bad u v) ha e = there (ha ∙ ap₂ bad (sym (same-number u 15 v y e)) (sym (same-place u 15 v y e)))

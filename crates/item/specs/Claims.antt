@@ -2,7 +2,7 @@
 use Prim.Native.Nat.{ℕ, _+_, _^_, _≤_, _<_}
 use mathlib.Core.Path.{_≡_}
 use mathlib.Core.Logic.{_↔_, _≢_}
-use mathlib.Core.List.{List, [], _∷_, map}
+use mathlib.Core.List.{List, [], _∷_, _++_, map}
 use lib.ListN.{length, getD, take, drop}
 use denote.Ref.{RefT}
 use Rattle.octets.specs.Bytes.{Bytes}
@@ -15,9 +15,9 @@ use Rattle.fields.specs.Write.{values}
 use Rattle.fields.specs.Effect.{wrote}
 use Rattle.fields.specs.Path.{pathAt, copyPath}
 use Rattle.fields.specs.Claims.{Each, PathCopied}
-use Rattle.fields.specs.Extensions.{Extended, unordered, GoesOn, ListOutOfOrder, InOrder}
+use Rattle.fields.specs.Extensions.{Extended, unordered, GoesOn, ListOutOfOrder, InOrder, allLaid}
 use Rattle.fields.specs.Answers.{noPart}
-use Rattle.octets.specs.Numbers.{unbe}
+use Rattle.octets.specs.Numbers.{be, unbe}
 use Rattle.item.specs.declared.table.Name.the-variants.{Timestamp}
 use Rattle.item.specs.declared.table.Met.{Met}
 use Rattle.item.specs.declared.table.Met.the-variants.{Whole, TypeBytes, Named, After}
@@ -199,6 +199,13 @@ abbrev pub OrderFirst : Type 0
 OrderFirst =
     (s : List ℕ) (c : Case) (x y : ℕ) → Bytes s → length s ≤ mostItem → 2 ≤ length s → find types (unbe (take 2 s)) ≡ good c → readItem s ≡ bad x y
     → x ≢ 15 → InOrder (layoutOf c) s (partsFound (map unordered (layoutOf c)) s 2)
+
+-- what the writer refuses with 15 the reader would refuse so if it were written, at the same place
+abbrev pub RefusedAsRead : Type 0
+RefusedAsRead =
+    (k : ℕ) (n : Numbers) (t : Vectors) (out : List ℕ) (c : Case) (y : ℕ) → Sized k n → find types k ≡ good c
+    → length (be 2 k ++ allLaid (filled n t (namesOf c))) ≤ mostItem → writeItem k n t out .answer ≡ bad 15 y
+    → readItem (be 2 k ++ allLaid (filled n t (namesOf c))) ≡ bad 15 y
 
 -- of two heads neither is chosen where one is refused, with 15 too
 abbrev pub RefusedIsNeither : Type 0

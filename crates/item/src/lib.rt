@@ -10,7 +10,7 @@ mod writer;
 
 ghost use Rattle.item.specs.Claims.{ReadThenWritten, ReadGives, WrittenThenRead, WriterKeeps, RefusedWithin, FieldsWithin, EmptyIsNeither};
 ghost use Rattle.item.specs.Claims.{NamesItsField, PathIsSaid, TakenThenWritten, WrittenThenTaken};
-ghost use Rattle.item.specs.Claims.{StillRead, RefusedByOrder, FifteenInList, ReadByOrder, OrderFirst, RefusedIsNeither};
+ghost use Rattle.item.specs.Claims.{StillRead, RefusedByOrder, FifteenInList, ReadByOrder, OrderFirst, RefusedAsRead, RefusedIsNeither};
 pub use heads::newer;
 pub use reader::Item;
 pub use reader::read;
@@ -37,5 +37,6 @@ pub fn claims()
     ensures fifteen_in_list { λ _. ⌜ FifteenInList ⌝ }
     ensures read_by_order { λ _. ⌜ ReadByOrder ⌝ }
     ensures order_first { λ _. ⌜ OrderFirst ⌝ }
+    ensures refused_as_read { λ _. ⌜ RefusedAsRead ⌝ }
     ensures refused_is_neither { λ _. ⌜ RefusedIsNeither ⌝ }
 {}
