@@ -30,7 +30,6 @@ use Rattle.fields.proofs.Founds.{found-bad}
 use Rattle.fields.proofs.Vectors.{vector-there, vector-by-elements, kept}
 use Rattle.fields.proofs.Fills.{fill-laid}
 use Rattle.fields.proofs.Bodies.{value}
-use Rattle.fields.proofs.Ordering.{found}
 
 -- the writer and the reader of what it would write
 module _ (w least most : ℕ) (o : Order) (v rest : List ℕ) (at : ℕ) (fit : length v < 256 ^ w) where
