@@ -22,7 +22,7 @@ use Rattle.fields.specs.Claims.{Each}
 use Rattle.fields.specs.Extensions.{Extension, Fits, extensionBytes, listBytes, Ascending, Asked, Extended, OutOfOrder, FineIsExtended, OneList, FifteenIsOutOfOrder}
 use Rattle.fields.proofs.Answers.{wrong-fine, same-wrong}
 use Rattle.fields.proofs.Elements.{inside-none, inside-bad, inside-more}
-use Rattle.fields.proofs.Vectors.{bytes-take, bytes-drop}
+use Rattle.fields.proofs.Vectors.{bytes-take, bytes-drop, length-there, body-there}
 
 -- what stands where in an extension's bytes
 module _ (x : Extension) (rest : List ℕ) where
@@ -35,22 +35,21 @@ module _ (x : Extension) (rest : List ℕ) where
   bytes-length : length (extensionBytes x) ≡ 4 + l
   bytes-length = length-append (be 2 t) (be 2 l ++ x .extensionData) ∙ omega (arith, be-length 2 t, length-append (be 2 l) (x .extensionData), be-length 2 l)
 
-  laid-out : extensionBytes x ++ rest ≡ be 2 t ++ (be 2 l ++ (x .extensionData ++ rest))
-  laid-out = append-assoc (be 2 t) (be 2 l ++ x .extensionData) rest ∙ ap (λ (a : List ℕ). be 2 t ++ a) (append-assoc (be 2 l) (x .extensionData) rest)
+  -- its type, then its data as a vector
+  laid-out : extensionBytes x ++ rest ≡ be 2 t ++ ((be 2 l ++ x .extensionData) ++ rest)
+  laid-out = append-assoc (be 2 t) (be 2 l ++ x .extensionData) rest
 
-  behind-type : drop 2 (extensionBytes x ++ rest) ≡ be 2 l ++ (x .extensionData ++ rest)
-  behind-type = ap (drop 2) laid-out ∙ drop-at (be 2 t) (be 2 l ++ (x .extensionData ++ rest)) 2 (be-length 2 t)
+  behind-type : drop 2 (extensionBytes x ++ rest) ≡ (be 2 l ++ x .extensionData) ++ rest
+  behind-type = ap (drop 2) laid-out ∙ drop-at (be 2 t) ((be 2 l ++ x .extensionData) ++ rest) 2 (be-length 2 t)
 
   type-there : Fits x → unbe (take 2 (extensionBytes x ++ rest)) ≡ t
-  type-there f = ap (λ (a : List ℕ). unbe (take 2 a)) laid-out ∙ ap unbe (take-at (be 2 t) (be 2 l ++ (x .extensionData ++ rest)) 2 (be-length 2 t)) ∙ unbe-be 2 t (f .0)
+  type-there f = ap (λ (a : List ℕ). unbe (take 2 a)) laid-out ∙ ap unbe (take-at (be 2 t) ((be 2 l ++ x .extensionData) ++ rest) 2 (be-length 2 t)) ∙ unbe-be 2 t (f .0)
 
-  length-there : Fits x → unbe (take 2 (drop 2 (extensionBytes x ++ rest))) ≡ l
-  length-there f = ap (λ (a : List ℕ). unbe (take 2 a)) behind-type ∙ ap unbe (take-at (be 2 l) (x .extensionData ++ rest) 2 (be-length 2 l)) ∙ unbe-be 2 l (f .1)
+  data-length : Fits x → unbe (take 2 (drop 2 (extensionBytes x ++ rest))) ≡ l
+  data-length f = ap (λ (a : List ℕ). unbe (take 2 a)) behind-type ∙ length-there 2 (x .extensionData) rest (f .1)
 
-  data-there : take l (drop 4 (extensionBytes x ++ rest)) ≡ x .extensionData
-  data-there =
-      ap (take l) (sym (drop-drop 2 2 (extensionBytes x ++ rest)) ∙ ap (drop 2) behind-type ∙ drop-at (be 2 l) (x .extensionData ++ rest) 2 (be-length 2 l))
-      ∙ take-at (x .extensionData) rest l refl
+  data-there : Fits x → take l (drop 4 (extensionBytes x ++ rest)) ≡ x .extensionData
+  data-there f = ap (take l) (sym (drop-drop 2 2 (extensionBytes x ++ rest)) ∙ ap (drop 2) behind-type) ∙ body-there 2 (x .extensionData) rest (f .1)
 
   rest-there : drop (4 + l) (extensionBytes x ++ rest) ≡ rest
   rest-there = drop-at (extensionBytes x) rest (4 + l) bytes-length
@@ -62,7 +61,7 @@ module _ (x : Extension) (rest : List ℕ) where
       let z : length (extensionBytes x ++ rest) ≡ 4 + l + length rest = length-append (extensionBytes x) rest ∙ omega (arith, bytes-length) in
       let h : 4 ≤ length (extensionBytes x ++ rest) = omega arith in
       let g : l ≤ length (extensionBytes x ++ rest) - 4 = omega arith in
-      rw (length-there f, type-there f, le-ltb _ _ h, le-ltb _ _ g)
+      rw (data-length f, type-there f, le-ltb _ _ h, le-ltb _ _ g)
 
 -- and bytes that are passed, or out of order, begin with an extension
 record There (r : List ℕ) : Type 0 where
@@ -91,6 +90,7 @@ there r b h g =
       is =
           sym
           (laid-out x (drop l (drop 4 r))
+          ∙ ap (λ (a : List ℕ). be 2 t ++ a) (append-assoc (be 2 (length (take l (drop 4 r)))) (take l (drop 4 r)) (drop l (drop 4 r)))
           ∙ ap (λ (a : List ℕ). be 2 t ++ (be 2 (length (take l (drop 4 r))) ++ a)) (take-append-drop l (drop 4 r))
           ∙ ap (λ (k : ℕ). be 2 t ++ (be 2 k ++ drop 4 r)) ld
           ∙ ap₂ (λ (a c : List ℕ). a ++ (c ++ drop 4 r)) bt bl
@@ -328,8 +328,8 @@ same-extension : (x y : Extension) (a b : List ℕ) → Fits x → Fits y → ex
 same-extension x y a b f g e =
     let r = extensionBytes x ++ a in
     let t : x .extensionType ≡ y .extensionType = sym (type-there x a f) ∙ ap (λ (s : List ℕ). unbe (take 2 s)) e ∙ type-there y b g in
-    let l : length (x .extensionData) ≡ length (y .extensionData) = sym (length-there x a f) ∙ ap (λ (s : List ℕ). unbe (take 2 (drop 2 s))) e ∙ length-there y b g in
-    let d : x .extensionData ≡ y .extensionData = sym (data-there x a) ∙ ap₂ (λ (k : ℕ) (s : List ℕ). take k (drop 4 s)) l e ∙ data-there y b in
+    let l : length (x .extensionData) ≡ length (y .extensionData) = sym (data-length x a f) ∙ ap (λ (s : List ℕ). unbe (take 2 (drop 2 s))) e ∙ data-length y b g in
+    let d : x .extensionData ≡ y .extensionData = sym (data-there x a f) ∙ ap₂ (λ (k : ℕ) (s : List ℕ). take k (drop 4 s)) l e ∙ data-there y b g in
     (ap₂ (λ (k : ℕ) (s : List ℕ). record { extensionType = k; extensionData = s }) t d, sym (rest-there x a) ∙ ap₂ (λ (k : ℕ) (s : List ℕ). drop (4 + k) s) l e ∙ rest-there y b)
 
 pub one-list : OneList

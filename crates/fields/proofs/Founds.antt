@@ -78,12 +78,12 @@ same-place : (x y p q : ℕ) → Bad x p ≡ Bad y q → q ≡ p
 same-place x y p q e = cc
 
 -- a field that was refused was refused at its start or behind it, within the bytes or at their end
-number-refused : (w : ℕ) (r : List ℕ) (at x y : ℕ) → numberAt w r at ≡ Bad x y → y ≡ at
+pub number-refused : (w : ℕ) (r : List ℕ) (at x y : ℕ) → numberAt w r at ≡ Bad x y → (x ≡ 2) × (y ≡ at)
 unfolding numberAt
 number-refused w r at x y e = go (ltb (length r) w) e
   where
-    go : (b : Bool) → cond b (Bad 2 at) (Found (record { start = at; len = w; value = unbe (take w r) })) ≡ Bad x y → y ≡ at
-    go true e = same-place 2 x at y e
+    go : (b : Bool) → cond b (Bad 2 at) (Found (record { start = at; len = w; value = unbe (take w r) })) ≡ Bad x y → (x ≡ 2) × (y ≡ at)
+    go true e = (cc, same-place 2 x at y e)
     go false e = found-bad x y _ e
 
 vector-refused : (w least most : ℕ) (i : Inner) (r : List ℕ) (at x y : ℕ) → vectorAt w least most i r at ≡ Bad x y → (at ≤ y) × (y ≤ at + length r)
@@ -110,5 +110,5 @@ vector-refused w least most i r at x y e =
         (omega (arith, p .0), omega (arith, p .1, ltb-false (length r) w ha, ltb-false (length r - w) n hd))
 
 pub refused-at : (f : Field) (r : List ℕ) (at x y : ℕ) → field f r at ≡ Bad x y → (at ≤ y) × (y ≤ at + length r)
-refused-at (Uint w) r at x y e = let z = number-refused (widthOf w) r at x y e in (omega arith, omega arith)
+refused-at (Uint w) r at x y e = let z = number-refused (widthOf w) r at x y e .1 in (omega arith, omega arith)
 refused-at (Vector w least most i) r at x y e = vector-refused (widthOf w) least most i r at x y e

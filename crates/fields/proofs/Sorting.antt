@@ -22,14 +22,13 @@ use Rattle.fields.specs.declared.layout.FieldRead.the-variants.{Found, B
 use Rattle.fields.specs.declared.layout.Inside.{Inside}
 use Rattle.fields.specs.declared.layout.Inside.the-variants.{Fine, Wrong}
 use Rattle.fields.specs.Checked.{Checked, good, bad}
-use Rattle.fields.specs.Layout.{inside, numberAt, vectorAt, field, whole, next, push, read, foundThen, partsFound, bytesAt}
+use Rattle.fields.specs.Layout.{inside, vectorAt, field, whole, next, push, read, foundThen, partsFound, bytesAt}
 use Rattle.fields.specs.Write.{fine}
 use Rattle.fields.specs.Extensions.{Extended, OutOfOrder, unordered, FifteenInList, ListOutOfOrder, FieldInOrder, InOrder, ReadByOrder, OrderFirst}
 use Rattle.fields.proofs.Answers.{bad-good, good-bad, same-good, same-place, same-number}
 use Rattle.fields.proofs.Places.{inside-some}
-use Rattle.fields.proofs.Founds.{FoundVector, found-vector, found-bad}
+use Rattle.fields.proofs.Founds.{FoundVector, found-vector, found-bad, number-refused}
 use Rattle.fields.proofs.Vectors.{bytes-take, bytes-drop}
-use Rattle.fields.proofs.Bodies.{value}
 use Rattle.fields.proofs.Extending.{fine-is-extended, fifteen-is-out-of-order}
 use Rattle.fields.proofs.Ordering.{fifteen-asked, Fields, found, refused, ordered, field-fields}
 
@@ -55,14 +54,6 @@ module _ (w least most : ℕ) (o : Order) (s : List ℕ) (at : ℕ) (p : Part) (
       let h = found-vector w least most (ExtensionList Unordered) (drop at s) at p e in
       let f = fine-is-extended o body (at + w) body-bytes .1 (subst (Extended o) (body-at h) x) in
       rw (le-ltb _ _ (h .prefix), le-ltb _ _ (h .low), le-ltb _ _ (h .high), le-ltb _ _ (h .room), f) (ap Found (sym (h .is)))
-
-number-refused-2 : (w : ℕ) (r : List ℕ) (at x y : ℕ) → numberAt w r at ≡ Bad x y → x ≡ 2
-unfolding numberAt
-number-refused-2 w r at x y e = go (ltb (length r) w) e
-  where
-    go : (b : Bool) → cond b (Bad 2 at) (Found (record { start = at; len = w; value = unbe (take w r) })) ≡ Bad x y → x ≡ 2
-    go true e = cc
-    go false e = found-bad x y _ e
 
 field-in-order : (f : Field) (s : List ℕ) (at : ℕ) (p : Part) → Bytes s → field f (drop at s) at ≡ Found p → FieldInOrder f s p
 field-in-order (Uint w) s at p bs e = tt
@@ -181,7 +172,7 @@ fifteen-in-list [] s at y bs e = go (ltb at (length s)) e
 fifteen-in-list (f ∷ fs) s at y bs e = go (field f (drop at s) at) refl e (λ p. fifteen-in-list fs s (p .start + p .len) y bs)
   where
     one : (f : Field) → field f (drop at s) at ≡ Bad 15 y → ListOutOfOrder s y
-    one (Uint w) h = absurd (let z = number-refused-2 (widthOf w) (drop at s) at 15 y h in omega arith)
+    one (Uint w) h = absurd (let z = number-refused (widthOf w) (drop at s) at 15 y h .0 in omega arith)
     one (Vector w least most i) h = vector-fifteen (widthOf w) least most i s at y bs h
 
     go : (z : FieldRead) → field f (drop at s) at ≡ z → next z (λ p. push p (read fs s (p .start + p .len))) ≡ bad 15 y → ((p : Part) → read fs s (p .start + p .len) ≡ bad 15 y → ListOutOfOrder s y) → ListOutOfOrder s y

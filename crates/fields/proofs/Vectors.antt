@@ -84,16 +84,16 @@ fill-again (Vector w least most i) s at p bs e =
 
 -- a vector that is there: its body, its length's range, then its elements
 module _ (w : ℕ) (b rest : List ℕ) (fit : length b < 256 ^ w) where
-  abbrev bytes-of : List ℕ
+  abbrev pub bytes-of : List ℕ
   bytes-of = (be w (length b) ++ b) ++ rest
 
   laid-out : bytes-of ≡ be w (length b) ++ (b ++ rest)
   laid-out = append-assoc (be w (length b)) b rest
 
-  length-there : unbe (take w bytes-of) ≡ length b
+  pub length-there : unbe (take w bytes-of) ≡ length b
   length-there = ap (λ (x : List ℕ). unbe (take w x)) laid-out ∙ ap unbe (take-at (be w (length b)) (b ++ rest) w (be-length w (length b))) ∙ unbe-be w (length b) fit
 
-  body-there : take (length b) (drop w bytes-of) ≡ b
+  pub body-there : take (length b) (drop w bytes-of) ≡ b
   body-there = ap (λ (x : List ℕ). take (length b) (drop w x)) laid-out ∙ ap (take (length b)) (drop-at (be w (length b)) (b ++ rest) w (be-length w (length b))) ∙ take-at b rest (length b) refl
 
   pub vector-there : (least most : ℕ) (i : Inner) (at : ℕ) → vectorAt w least most i bytes-of at ≡ cond (ltb (length b) least) (Bad 5 at) (cond (ltb most (length b)) (Bad 5 at) (whole (inside i b (at + w)) (record { start = at + w; len = length b; value = length b })))
