@@ -8,7 +8,7 @@ use native.Mathlib.Nat.{add-assoc}
 use lib.ListN.{length, getD, drop, length-append}
 use lib.Seq.{drop-cons, drop-length}
 use Rattle.fields.specs.declared.layout.Field.{Field}
-use Rattle.fields.specs.declared.layout.Field.the-variants.{Uint, Vector}
+use Rattle.fields.specs.declared.layout.Field.the-variants.{Uint, Vector, OneOf, Fixed}
 use Rattle.fields.specs.declared.writing.Fill.the-variants.{Takes, Not}
 use Rattle.fields.specs.Checked.{Checked, good, bad, then, moved}
 use Rattle.fields.specs.Write.{Value, uint, fill, Filled, join, write, held}
@@ -35,10 +35,18 @@ takes-not x y m e = absurd (let z : _≡_ {A = ℕ} 0 1 = cc in omega arith)
 pub same-takes : (m n : ℕ) → Takes m ≡ Takes n → m ≡ n
 same-takes m n e = cc
 
--- how long a field is does not depend on its number
-pub takes-held : (f : Field) (n : ℕ) (v : List ℕ) (at : ℕ) → takes (fill f (held f 0 v) at) ≡ takes (fill f (held f n v) at)
-takes-held (Uint w) n v at = ap Takes (be-length (widthOf w) 0 ∙ sym (be-length (widthOf w) n))
-takes-held (Vector w least most i) n v at = refl
+-- a field whose number is not judged: how long it is does not depend on it
+abbrev pub Unjudged : Field → Type 0
+Unjudged (Uint w) = Unit
+Unjudged (Vector w least most i) = Unit
+Unjudged (OneOf w least most) = ⊥
+Unjudged (Fixed n) = Unit
+
+pub takes-held : (f : Field) (n : ℕ) (v : List ℕ) (at : ℕ) → Unjudged f → takes (fill f (held f 0 v) at) ≡ takes (fill f (held f n v) at)
+takes-held (Uint w) n v at h = ap Takes (be-length (widthOf w) 0 ∙ sym (be-length (widthOf w) n))
+takes-held (Vector w least most i) n v at h = refl
+takes-held (OneOf w least most) n v at h = absurd h
+takes-held (Fixed m) n v at h = refl
 
 module _ (fs : List Filled) (at i : ℕ) (more : i < length fs) (f : Filled) (is : getD fs i nothing ≡ f) where
   pub this : write (drop i fs) at ≡ then (fill (f .field) (f .value) at) (λ b. join b (write (drop (i + 1) fs) (at + length b)))

@@ -1,8 +1,8 @@
 -- What a field that was found says. Assumes nothing.
-use mathlib.Core.Path.{_≡_, refl}
+use mathlib.Core.Path.{_≡_, refl, _∙_}
 use mathlib.Core.List.{List}
 use mathlib.Core.Bool.{Bool, true, false, cond}
-use Prim.Native.Nat.{ℕ, _+_, _-_, _≤_}
+use Prim.Native.Nat.{ℕ, _+_, _-_, _≤_, _<_}
 use native.Mathlib.Omega.{arith}
 use lib.ListN.{length, take, drop, length-drop}
 use lib.Dec.{ltb}
@@ -11,12 +11,13 @@ use borrow.Author.Tests.{ltb-false}
 use Rattle.fields.specs.declared.layout.Part.{Part}
 use Rattle.fields.specs.declared.layout.Inner.{Inner}
 use Rattle.fields.specs.declared.layout.Field.{Field}
-use Rattle.fields.specs.declared.layout.Field.the-variants.{Uint, Vector}
+use Rattle.fields.specs.declared.layout.Field.the-variants.{Uint, Vector, OneOf, Fixed}
+use Rattle.fields.specs.declared.layout.FieldRead.{FieldRead}
 use Rattle.fields.specs.declared.layout.FieldRead.the-variants.{Found, Bad}
 use Rattle.fields.specs.declared.layout.Inside.{Inside}
 use Rattle.fields.specs.declared.layout.Inside.the-variants.{Fine, Wrong}
 use Rattle.octets.specs.Numbers.{widthOf, unbe}
-use Rattle.fields.specs.Layout.{inside, numberAt, vectorAt, field, whole}
+use Rattle.fields.specs.Layout.{inside, numberAt, vectorAt, allowed, among, oneOfAt, fixedAt, field, whole}
 use Rattle.fields.proofs.Places.{inside-place}
 
 bad-found : {A : Type 0} (x y : ℕ) (p : Part) → Bad x y ≡ Found p → A
@@ -25,14 +26,36 @@ bad-found x y p e = absurd (let z : _≡_ {A = ℕ} 0 1 = cc in omega arith)
 same-part : (p q : Part) → Found p ≡ Found q → q ≡ p
 same-part p q e = cc
 
+-- n bytes that were found
+found-there : (n : ℕ) (r : List ℕ) (at : ℕ) (q p : Part) → cond (ltb (length r) n) (Bad 2 at) (Found q) ≡ Found p → (p ≡ q) × (n ≤ length r)
+found-there n r at q p e = go (ltb (length r) n) refl e
+  where
+    go : (b : Bool) → ltb (length r) n ≡ b → cond b (Bad 2 at) (Found q) ≡ Found p → (p ≡ q) × (n ≤ length r)
+    go true h e = bad-found 2 at p e
+    go false h e = (same-part _ _ e, ltb-false (length r) n h)
+
 -- a number that was found
 pub found-number : (w : ℕ) (r : List ℕ) (at : ℕ) (p : Part) → numberAt w r at ≡ Found p → (p ≡ record { start = at; len = w; value = unbe (take w r) }) × (w ≤ length r)
 unfolding numberAt
-found-number w r at p e = go (ltb (length r) w) refl e
+found-number w r at p e = found-there w r at _ p e
+
+-- one of few that was found
+pub found-one-of : (w least most : ℕ) (r : List ℕ) (at : ℕ) (p : Part) → oneOfAt w least most r at ≡ Found p → (numberAt w r at ≡ Found p) × (allowed least most (p .value) ≡ true)
+unfolding oneOfAt
+found-one-of w least most r at p e = go (numberAt w r at) refl e
   where
-    go : (b : Bool) → ltb (length r) w ≡ b → cond b (Bad 2 at) (Found (record { start = at; len = w; value = unbe (take w r) })) ≡ Found p → (p ≡ record { start = at; len = w; value = unbe (take w r) }) × (w ≤ length r)
-    go true h e = bad-found 2 at p e
-    go false h e = (same-part _ _ e, ltb-false (length r) w h)
+    go : (x : FieldRead) → numberAt w r at ≡ x → among least most x ≡ Found p → (numberAt w r at ≡ Found p) × (allowed least most (p .value) ≡ true)
+    go (Bad x y) h e = bad-found x y p e
+    go (Found q) h e = last (allowed least most (q .value)) refl e
+      where
+        last : (b : Bool) → allowed least most (q .value) ≡ b → cond b (Found q) (Bad 4 (q .start)) ≡ Found p → (numberAt w r at ≡ Found p) × (allowed least most (p .value) ≡ true)
+        last true hb e = (h ∙ e, rw (same-part q p e) hb)
+        last false hb e = bad-found 4 (q .start) p e
+
+-- bytes of fixed length that were found
+pub found-fixed : (n : ℕ) (r : List ℕ) (at : ℕ) (p : Part) → fixedAt n r at ≡ Found p → (p ≡ record { start = at; len = n; value = n }) × (n ≤ length r)
+unfolding fixedAt
+found-fixed n r at p e = found-there n r at _ p e
 
 -- a vector that was found
 pub record FoundVector (w least most : ℕ) (i : Inner) (r : List ℕ) (at : ℕ) (p : Part) : Type 0 where
@@ -65,11 +88,17 @@ pub found-within : (f : Field) (r : List ℕ) (at : ℕ) (p : Part) → field f 
 found-within (Uint w) r at p e = let h = found-number (widthOf w) r at p e in rw (h .0) (omega arith)
 found-within (Vector w least most i) r at p e =
     let h = found-vector (widthOf w) least most i r at p e in rw (h .is) (omega (arith, h .room, h .prefix))
+found-within (OneOf w least most) r at p e =
+    let h = found-number (widthOf w) r at p (found-one-of (widthOf w) least most r at p e .0) in rw (h .0) (omega arith)
+found-within (Fixed n) r at p e = let h = found-fixed n r at p e in rw (h .0) (omega arith)
 
 -- and ends behind its start
 pub found-after : (f : Field) (r : List ℕ) (at : ℕ) (p : Part) → field f r at ≡ Found p → at ≤ p .start + p .len
 found-after (Uint w) r at p e = let h = found-number (widthOf w) r at p e in rw (h .0) (omega arith)
 found-after (Vector w least most i) r at p e = let h = found-vector (widthOf w) least most i r at p e in rw (h .is) (omega arith)
+found-after (OneOf w least most) r at p e =
+    let h = found-number (widthOf w) r at p (found-one-of (widthOf w) least most r at p e .0) in rw (h .0) (omega arith)
+found-after (Fixed n) r at p e = let h = found-fixed n r at p e in rw (h .0) (omega arith)
 
 pub found-bad : {A : Type 0} (x y : ℕ) (p : Part) → Found p ≡ Bad x y → A
 found-bad x y p e = absurd (let z : _≡_ {A = ℕ} 0 1 = cc in omega arith)
@@ -78,13 +107,35 @@ same-place : (x y p q : ℕ) → Bad x p ≡ Bad y q → q ≡ p
 same-place x y p q e = cc
 
 -- a field that was refused was refused at its start or behind it, within the bytes or at their end
+cut-short : (b : Bool) (at x y : ℕ) (q : Part) → cond b (Bad 2 at) (Found q) ≡ Bad x y → (x ≡ 2) × (y ≡ at)
+cut-short true at x y q e = (cc, same-place 2 x at y e)
+cut-short false at x y q e = found-bad x y q e
+
 pub number-refused : (w : ℕ) (r : List ℕ) (at x y : ℕ) → numberAt w r at ≡ Bad x y → (x ≡ 2) × (y ≡ at)
 unfolding numberAt
-number-refused w r at x y e = go (ltb (length r) w) e
+number-refused w r at x y e = cut-short (ltb (length r) w) at x y _ e
+
+pub fixed-refused : (n : ℕ) (r : List ℕ) (at x y : ℕ) → fixedAt n r at ≡ Bad x y → (x ≡ 2) × (y ≡ at)
+unfolding fixedAt
+fixed-refused n r at x y e = cut-short (ltb (length r) n) at x y _ e
+
+-- 2 or 4, where it starts
+pub one-of-refused : (w least most : ℕ) (r : List ℕ) (at x y : ℕ) → oneOfAt w least most r at ≡ Bad x y → (0 < x) × (x < 5) × (y ≡ at)
+unfolding oneOfAt
+one-of-refused w least most r at x y e = go (numberAt w r at) refl e
   where
-    go : (b : Bool) → cond b (Bad 2 at) (Found (record { start = at; len = w; value = unbe (take w r) })) ≡ Bad x y → (x ≡ 2) × (y ≡ at)
-    go true e = (cc, same-place 2 x at y e)
-    go false e = found-bad x y _ e
+    go : (z : FieldRead) → numberAt w r at ≡ z → among least most z ≡ Bad x y → (0 < x) × (x < 5) × (y ≡ at)
+    go (Bad u v) h e =
+        let k = number-refused w r at x y (h ∙ e) in
+        (omega (arith, k .0), omega (arith, k .0), k .1)
+    go (Found q) h e = last (allowed least most (q .value)) e
+      where
+        last : (b : Bool) → cond b (Found q) (Bad 4 (q .start)) ≡ Bad x y → (0 < x) × (x < 5) × (y ≡ at)
+        last true e = found-bad x y q e
+        last false e =
+            let z : x ≡ 4 = cc in
+            let s : q .start ≡ at = rw (found-number w r at q h .0) in
+            (omega arith, omega arith, same-place 4 x (q .start) y e ∙ s)
 
 vector-refused : (w least most : ℕ) (i : Inner) (r : List ℕ) (at x y : ℕ) → vectorAt w least most i r at ≡ Bad x y → (at ≤ y) × (y ≤ at + length r)
 unfolding vectorAt
@@ -112,3 +163,5 @@ vector-refused w least most i r at x y e =
 pub refused-at : (f : Field) (r : List ℕ) (at x y : ℕ) → field f r at ≡ Bad x y → (at ≤ y) × (y ≤ at + length r)
 refused-at (Uint w) r at x y e = let z = number-refused (widthOf w) r at x y e .1 in (omega arith, omega arith)
 refused-at (Vector w least most i) r at x y e = vector-refused (widthOf w) least most i r at x y e
+refused-at (OneOf w least most) r at x y e = let z = one-of-refused (widthOf w) least most r at x y e .2 in (omega arith, omega arith)
+refused-at (Fixed n) r at x y e = let z = fixed-refused n r at x y e .1 in (omega arith, omega arith)

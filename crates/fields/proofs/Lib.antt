@@ -15,6 +15,7 @@ pub mod Refusing
 pub mod Numbered
 pub mod Resuming
 pub mod Filling
+pub mod Reaching
 pub mod Putting
 pub mod Stripping
 pub mod Hashing

@@ -11,7 +11,7 @@ use Rattle.fields.specs.declared.layout.Part.{Part}
 use Rattle.fields.specs.declared.layout.Inner.{Inner}
 use Rattle.fields.specs.declared.layout.Inner.the-variants.{Opaque, ExtensionList, NodeList}
 use Rattle.fields.specs.declared.layout.Field.{Field}
-use Rattle.fields.specs.declared.layout.Field.the-variants.{Uint, Vector}
+use Rattle.fields.specs.declared.layout.Field.the-variants.{Uint, Vector, OneOf, Fixed}
 use Rattle.fields.specs.declared.layout.FieldRead.{FieldRead}
 use Rattle.fields.specs.declared.layout.FieldRead.the-variants.{Found, Bad}
 use Rattle.fields.specs.declared.layout.Step.{Step}
@@ -19,8 +19,9 @@ use Rattle.fields.specs.declared.layout.Step.the-variants.{Size, Not}
 use Rattle.fields.specs.declared.layout.Inside.{Inside}
 use Rattle.fields.specs.declared.layout.Inside.the-variants.{Fine, Wrong}
 use Rattle.fields.specs.Checked.{Checked, good, bad}
-use Rattle.fields.specs.Layout.{outOfOrder, element, elements, insideFrom, inside, past, whole, numberAt, vectorAt, field, next, push, read}
+use Rattle.fields.specs.Layout.{outOfOrder, element, elements, insideFrom, inside, past, whole, vectorAt, field, next, push, read}
 use Rattle.fields.proofs.Answers.{good-bad, same-number}
+use Rattle.fields.proofs.Founds.{number-refused, one-of-refused, fixed-refused}
 
 -- what each answer says of its number
 abbrev Numbered : Step → Type 0
@@ -62,13 +63,15 @@ elements-numbered (suc n) i last r at = go (eqb (length r) 0) (element i last r)
     go false (Not x) h less = h
     go false (Size m t) h less = less m t
 
+numbered : (a : FieldRead) → ((x y : ℕ) → a ≡ Bad x y → 0 < x) → NumberedField a
+numbered (Found p) h = tt
+numbered (Bad x y) h = h x y refl
+
 field-numbered : (f : Field) (r : List ℕ) (at : ℕ) → NumberedField (field f r at)
-unfolding numberAt vectorAt inside insideFrom
-field-numbered (Uint w) r at = go (ltb (length r) (widthOf w))
-  where
-    go : (b : Bool) → NumberedField (cond b (Bad 2 at) (Found (record { start = at; len = widthOf w; value = unbe (take (widthOf w) r) })))
-    go true = omega arith
-    go false = tt
+unfolding vectorAt inside insideFrom
+field-numbered (Uint w) r at = numbered _ (λ x y e. omega (arith, number-refused (widthOf w) r at x y e .0))
+field-numbered (OneOf w least most) r at = numbered _ (λ x y e. one-of-refused (widthOf w) least most r at x y e .0)
+field-numbered (Fixed n) r at = numbered _ (λ x y e. omega (arith, fixed-refused n r at x y e .0))
 field-numbered (Vector width least most i) r at =
     let w = widthOf width in
     let n = unbe (take w r) in

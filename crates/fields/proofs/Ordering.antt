@@ -13,7 +13,7 @@ use Rattle.fields.specs.declared.layout.Part.{Part}
 use Rattle.fields.specs.declared.layout.Inner.{Inner}
 use Rattle.fields.specs.declared.layout.Inner.the-variants.{Opaque, ExtensionList, NodeList}
 use Rattle.fields.specs.declared.layout.Field.{Field}
-use Rattle.fields.specs.declared.layout.Field.the-variants.{Uint, Vector}
+use Rattle.fields.specs.declared.layout.Field.the-variants.{Uint, Vector, OneOf, Fixed}
 use Rattle.fields.specs.declared.layout.FieldRead.{FieldRead}
 use Rattle.fields.specs.declared.layout.FieldRead.the-variants.{Found, Bad}
 use Rattle.fields.specs.declared.layout.Step.{Step}
@@ -21,12 +21,13 @@ use Rattle.fields.specs.declared.layout.Step.the-variants.{Size, Not}
 use Rattle.fields.specs.declared.layout.Inside.{Inside}
 use Rattle.fields.specs.declared.layout.Inside.the-variants.{Fine, Wrong}
 use Rattle.fields.specs.Checked.{Checked, good, bad}
-use Rattle.fields.specs.Layout.{outOfOrder, element, elements, insideFrom, inside, past, whole, numberAt, vectorAt, field, next, push, read}
+use Rattle.fields.specs.Layout.{outOfOrder, element, elements, insideFrom, inside, past, whole, vectorAt, field, next, push, read}
 use Rattle.fields.specs.Extensions.{anyOrder, unordered, GoesOn, StillRead, RefusedByOrder}
 use Rattle.fields.proofs.Answers.{bad-good, good-bad, same-place, same-number, wrong-fine, same-wrong}
 use Rattle.fields.proofs.Elements.{element-size}
 use Rattle.fields.proofs.Places.{elements-place}
 use Rattle.fields.proofs.Within.{refused-behind}
+use Rattle.fields.proofs.Founds.{number-refused, one-of-refused, fixed-refused}
 
 -- one element: the two agree and it is no 15, or it is 15 where without the order it is passed
 data Steps (now older : Step) : Type 0 where
@@ -143,16 +144,15 @@ vector-fields w least most i r at =
         let l : length b ≡ n = length-take-le n (drop w r) (rw (length-drop w r) (ltb-false _ _ hf)) in
         body (omega arith) _ _ h
 
-pub field-fields : (f : Field) (r : List ℕ) (at : ℕ) → Fields (field f r at) (field (unordered f) r at)
-unfolding numberAt
-field-fields (Uint w) r at = go (ltb (length r) (widthOf w))
-  where
-    p : Part
-    p = record { start = at; len = widthOf w; value = unbe (take (widthOf w) r) }
+-- a field that has no order
+no-order : (a : FieldRead) → ((x y : ℕ) → a ≡ Bad x y → x < 5) → Fields a a
+no-order (Found p) h = found p refl refl
+no-order (Bad x y) h = refused x y (λ z. omega (arith, h x y refl)) refl refl
 
-    go : (b : Bool) → Fields (cond b (Bad 2 at) (Found p)) (cond b (Bad 2 at) (Found p))
-    go true = refused 2 at (λ z. omega arith) refl refl
-    go false = found p refl refl
+pub field-fields : (f : Field) (r : List ℕ) (at : ℕ) → Fields (field f r at) (field (unordered f) r at)
+field-fields (Uint w) r at = no-order _ (λ x y e. omega (arith, number-refused (widthOf w) r at x y e .0))
+field-fields (OneOf w least most) r at = no-order _ (λ x y e. one-of-refused (widthOf w) least most r at x y e .1)
+field-fields (Fixed n) r at = no-order _ (λ x y e. omega (arith, fixed-refused n r at x y e .0))
 field-fields (Vector w least most i) r at = vector-fields (widthOf w) least most i r at
 
 -- a whole layout

@@ -16,19 +16,19 @@ use Rattle.fields.specs.declared.layout.Order.{Order}
 use Rattle.fields.specs.declared.layout.Inner.{Inner}
 use Rattle.fields.specs.declared.layout.Inner.the-variants.{ExtensionList}
 use Rattle.fields.specs.declared.layout.Field.{Field}
-use Rattle.fields.specs.declared.layout.Field.the-variants.{Uint, Vector}
+use Rattle.fields.specs.declared.layout.Field.the-variants.{Uint, Vector, OneOf, Fixed}
 use Rattle.fields.specs.declared.layout.FieldRead.the-variants.{Found, Bad}
 use Rattle.fields.specs.declared.layout.Inside.{Inside}
 use Rattle.fields.specs.declared.layout.Inside.the-variants.{Fine, Wrong}
 use Rattle.fields.specs.Checked.{Checked, good, bad, then}
 use Rattle.fields.specs.Layout.{inside, vectorAt, field, whole, next, push, read}
-use Rattle.fields.specs.Write.{Value, uint, bytes, wrap, bodySize, wholes, vectorFilled, vectorBytes, fine, fill, laid, join, write}
+use Rattle.fields.specs.Write.{Value, uint, bytes, bytesIn, wrap, bodySize, wholes, vectorFilled, vectorBytes, fine, fill, laid, join, write}
 use Rattle.fields.specs.Claims.{Typed, one-field, layout}
 use Rattle.fields.specs.Extensions.{RefusedAsRead, allLaid, LayoutRefusedAsRead}
 use Rattle.fields.proofs.Answers.{good-bad, same-place, same-number}
 use Rattle.fields.proofs.Founds.{found-bad}
-use Rattle.fields.proofs.Vectors.{vector-there, vector-by-elements, kept}
-use Rattle.fields.proofs.Fills.{fill-laid}
+use Rattle.fields.proofs.Vectors.{vector-there, vector-by-elements, one-of-there, kept}
+use Rattle.fields.proofs.Fills.{refused-one-of, refused-fixed, fill-laid}
 use Rattle.fields.proofs.Bodies.{value}
 
 -- the writer and the reader of what it would write
@@ -104,6 +104,11 @@ field-refused : (f : Field) (v : Value) (rest : List ℕ) (at x y : ℕ) → Typ
 field-refused (Uint w) v rest at x y typed e h₅ h₁₀ = good-bad x y _ e
 field-refused (Vector w least most i) (uint n) rest at x y typed e h₅ h₁₀ = absurd typed
 field-refused (Vector w least most i) (bytes v) rest at x y typed e h₅ h₁₀ = vector-refused w least most i v rest at x y typed e h₅ h₁₀
+field-refused (OneOf w least most) (bytes v) rest at x y typed e h₅ h₁₀ = absurd typed
+field-refused (OneOf w least most) (uint n) rest at x y typed e h₅ h₁₀ =
+    let h = refused-one-of (widthOf w) least most n at x y e in
+    one-of-there (widthOf w) least most n rest at typed ∙ rw (h .0) (ap₂ Bad (sym (h .1)) (sym (h .2)))
+field-refused (Fixed n) v rest at x y typed e h₅ h₁₀ = absurd (h₅ (refused-fixed n (bytesIn v) at x y e .0))
 
 pub layout-refused-as-read : LayoutRefusedAsRead
 unfolding read write

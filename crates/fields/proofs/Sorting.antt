@@ -16,7 +16,7 @@ use Rattle.fields.specs.declared.layout.Order.the-variants.{Ordered, Uno
 use Rattle.fields.specs.declared.layout.Inner.{Inner}
 use Rattle.fields.specs.declared.layout.Inner.the-variants.{Opaque, ExtensionList, NodeList}
 use Rattle.fields.specs.declared.layout.Field.{Field}
-use Rattle.fields.specs.declared.layout.Field.the-variants.{Uint, Vector}
+use Rattle.fields.specs.declared.layout.Field.the-variants.{Uint, Vector, OneOf, Fixed}
 use Rattle.fields.specs.declared.layout.FieldRead.{FieldRead}
 use Rattle.fields.specs.declared.layout.FieldRead.the-variants.{Found, Bad}
 use Rattle.fields.specs.declared.layout.Inside.{Inside}
@@ -27,7 +27,7 @@ use Rattle.fields.specs.Write.{fine}
 use Rattle.fields.specs.Extensions.{Extended, OutOfOrder, unordered, FifteenInList, ListOutOfOrder, FieldInOrder, InOrder, ReadByOrder, OrderFirst}
 use Rattle.fields.proofs.Answers.{bad-good, good-bad, same-good, same-place, same-number}
 use Rattle.fields.proofs.Places.{inside-some}
-use Rattle.fields.proofs.Founds.{FoundVector, found-vector, found-bad, number-refused}
+use Rattle.fields.proofs.Founds.{FoundVector, found-vector, found-bad, number-refused, one-of-refused, fixed-refused}
 use Rattle.fields.proofs.Vectors.{bytes-take, bytes-drop}
 use Rattle.fields.proofs.Extending.{fine-is-extended, fifteen-is-out-of-order}
 use Rattle.fields.proofs.Ordering.{fifteen-asked, Fields, found, refused, ordered, field-fields}
@@ -60,12 +60,16 @@ field-in-order (Uint w) s at p bs e = tt
 field-in-order (Vector w least most Opaque) s at p bs e = tt
 field-in-order (Vector w least most (ExtensionList o)) s at p bs e = extended-found (widthOf w) least most o s at p bs e
 field-in-order (Vector w least most NodeList) s at p bs e = tt
+field-in-order (OneOf w least most) s at p bs e = tt
+field-in-order (Fixed n) s at p bs e = tt
 
 in-order-field : (f : Field) (s : List ℕ) (at : ℕ) (p : Part) → Bytes s → field (unordered f) (drop at s) at ≡ Found p → FieldInOrder f s p → field f (drop at s) at ≡ Found p
 in-order-field (Uint w) s at p bs e x = e
 in-order-field (Vector w least most Opaque) s at p bs e x = e
 in-order-field (Vector w least most (ExtensionList o)) s at p bs e x = found-extended (widthOf w) least most o s at p bs e x
 in-order-field (Vector w least most NodeList) s at p bs e x = e
+in-order-field (OneOf w least most) s at p bs e x = e
+in-order-field (Fixed n) s at p bs e x = e
 
 -- the fields that are read are in order
 read-in-order : (fs : List Field) (s : List ℕ) (at : ℕ) (ps : List Part) → Bytes s → read fs s at ≡ good ps → InOrder fs s ps
@@ -174,6 +178,8 @@ fifteen-in-list (f ∷ fs) s at y bs e = go (field f (drop at s) at) refl e (λ 
     one : (f : Field) → field f (drop at s) at ≡ Bad 15 y → ListOutOfOrder s y
     one (Uint w) h = absurd (let z = number-refused (widthOf w) (drop at s) at 15 y h .0 in omega arith)
     one (Vector w least most i) h = vector-fifteen (widthOf w) least most i s at y bs h
+    one (OneOf w least most) h = absurd (let z = one-of-refused (widthOf w) least most (drop at s) at 15 y h .1 in omega arith)
+    one (Fixed n) h = absurd (let z = fixed-refused n (drop at s) at 15 y h .0 in omega arith)
 
     go : (z : FieldRead) → field f (drop at s) at ≡ z → next z (λ p. push p (read fs s (p .start + p .len))) ≡ bad 15 y → ((p : Part) → read fs s (p .start + p .len) ≡ bad 15 y → ListOutOfOrder s y) → ListOutOfOrder s y
     go (Bad u v) hz e less = let a = same-number u 15 v y e in let b = same-place u 15 v y e in one f (hz ∙ ap₂ Bad (sym a) (sym b))

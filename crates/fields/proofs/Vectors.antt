@@ -1,30 +1,30 @@
 -- Vectors of any width, range and body, and numbers of any width: what is found is filled again, and what is filled is found. Assumes nothing.
 use mathlib.Core.Path.{_≡_, refl, ap, sym, subst, _∙_}
 use mathlib.Core.List.{List, _++_, append-assoc, [], _∷_}
-use mathlib.Core.Bool.{true, cond}
+use mathlib.Core.Bool.{Bool, true, false, cond, _&&_}
 use Prim.Native.Nat.{ℕ, zero, suc, _+_, _-_, _^_, _≤_, _<_}
 use native.Mathlib.Omega.{arith}
-use lib.Dec.{ltb}
+use lib.Dec.{ltb, leb}
 use lib.ListN.{getD, length, take, drop, length-append, length-drop}
 use lib.Seq.{take-at, drop-at, length-take-le, drop-drop, take-add, drop-append-add}
-use borrow.Author.Tests.{le-ltb}
+use borrow.Author.Tests.{lt-ltb, le-ltb, le-leb, leb-true, eq-eqb, ne-eqb}
 use Rattle.fields.specs.declared.layout.Part.{Part}
 use Rattle.fields.specs.declared.layout.Inner.{Inner}
-use Rattle.fields.specs.declared.layout.Field.the-variants.{Uint, Vector}
+use Rattle.fields.specs.declared.layout.Field.the-variants.{Uint, Vector, OneOf, Fixed}
 use Rattle.fields.specs.declared.layout.FieldRead.the-variants.{Found, Bad}
 use Rattle.fields.specs.declared.layout.Inside.the-variants.{Fine}
 use Rattle.fields.specs.Checked.{good}
 use Rattle.octets.specs.Bytes.{Bytes, no-bytes, one-byte}
-use Rattle.fields.specs.Layout.{bytesAt, inside, whole, numberAt, vectorAt, field}
+use Rattle.fields.specs.Layout.{bytesAt, inside, whole, numberAt, vectorAt, allowed, oneOfAt, fixedAt, field}
 use Rattle.octets.specs.declared.number.Width.{Width}
 use Rattle.octets.specs.Numbers.{widthOf, unbe, be}
 use Rattle.fields.specs.Inner.{part}
-use Rattle.fields.specs.Write.{wrap, unwrap, bodySize, wholes, vectorFilled, opened, uint, bytes}
-use Rattle.fields.specs.Claims.{ReadThenFilled, FilledThenRead, VectorByElements, Kept}
+use Rattle.fields.specs.Write.{wrap, unwrap, bodySize, wholes, vectorFilled, oneOfFilled, fixedFilled, opened, uint, bytes}
+use Rattle.fields.specs.Claims.{ReadThenFilled, FilledThenRead, VectorByElements, OneOfJudged, FixedAsIs, CutFirst, Kept}
 use Rattle.octets.proofs.Numbers.{be-length, unbe-be, be-unbe}
-use Rattle.fields.proofs.Founds.{found-number, found-vector}
+use Rattle.fields.proofs.Founds.{found-number, found-vector, found-one-of, found-fixed}
 use Rattle.fields.proofs.Answers.{same-good}
-use Rattle.fields.proofs.Fills.{filled-vector}
+use Rattle.fields.proofs.Fills.{filled-vector, filled-one-of, filled-fixed}
 use Rattle.fields.proofs.Bodies.{body, value}
 
 -- a list of which every element is a byte
@@ -76,11 +76,21 @@ number-again w s at p bs e =
 
 -- a field that was found, filled with what was found there, is the same bytes
 pub fill-again : ReadThenFilled
-unfolding opened
+unfolding opened oneOfFilled fixedFilled
 fill-again (Uint w) s at p bs e = let h = number-again (widthOf w) s at p bs e in (ap good (h .0), h .1)
 fill-again (Vector w least most i) s at p bs e =
     let h = found-vector (widthOf w) least most i (drop at s) at p e in
     (vector-again (widthOf w) least most i s at p bs e, rw (h .is) (omega arith))
+
+fill-again (OneOf w least most) s at p bs e =
+    let h = found-one-of (widthOf w) least most (drop at s) at p e in
+    let k = number-again (widthOf w) s at p bs (h .0) in
+    (rw (h .1) (ap good (k .0)), k .1)
+fill-again (Fixed n) s at p bs e =
+    let h = found-fixed n (drop at s) at p e in
+    let l : length (take n (drop at s)) ≡ n = length-take-le n (drop at s) (h .1) in
+    let z : at + n - at ≡ n = omega arith in
+    rw (h .0) (rw (eq-eqb _ _ l, z), omega arith)
 
 -- a vector that is there: its body, its length's range, then its elements
 module _ (w : ℕ) (b rest : List ℕ) (fit : length b < 256 ^ w) where
@@ -107,19 +117,60 @@ module _ (w : ℕ) (b rest : List ℕ) (fit : length b < 256 ^ w) where
 pub vector-by-elements : VectorByElements
 vector-by-elements w least most i b rest at low high fit = vector-there (widthOf w) b rest fit least most i at ∙ rw (le-ltb (length b) least low, le-ltb most (length b) high)
 
--- a number that was written is found, and so is a vector that was filled
-kept-number : (w : Width) (n : ℕ) (front rest : List ℕ) → n < 256 ^ widthOf w → Kept (Uint w) (uint n) front (be (widthOf w) n) rest
-unfolding numberAt opened
-kept-number x n front rest h =
-    let w = widthOf x in
+-- a number that is there
+pub number-there : (w n : ℕ) (rest : List ℕ) (at : ℕ) → n < 256 ^ w → numberAt w (be w n ++ rest) at ≡ Found (record { start = at; len = w; value = n })
+unfolding numberAt
+number-there w n rest at h =
     let l : length (be w n) ≡ w = be-length w n in
     let room : w ≤ length (be w n ++ rest) = omega (arith, length-append (be w n) rest) in
     let u : unbe (take w (be w n ++ rest)) ≡ n = ap unbe (take-at (be w n) rest w l) ∙ unbe-be w n h in
+    rw (le-ltb _ _ room, u)
+
+-- a number that was written is found, one of few too, and so is a vector that was filled, and bytes of fixed length
+kept-number : (w : Width) (n : ℕ) (front rest : List ℕ) → n < 256 ^ widthOf w → Kept (Uint w) (uint n) front (be (widthOf w) n) rest
+unfolding opened
+kept-number x n front rest h =
+    let w = widthOf x in
+    let l : length (be w n) ≡ w = be-length w n in
     record {
       place = record { start = length front; len = w; value = n };
-      found = rw (le-ltb _ _ room, u);
+      found = number-there w n rest (length front) h;
       end = omega arith;
       same = refl;
+    }
+
+-- one of few that is there: it is judged
+pub one-of-there : (w least most n : ℕ) (rest : List ℕ) (at : ℕ) → n < 256 ^ w → oneOfAt w least most (be w n ++ rest) at ≡ cond (allowed least most n) (Found (record { start = at; len = w; value = n })) (Bad 4 at)
+unfolding oneOfAt
+one-of-there w least most n rest at h = rw (number-there w n rest at h)
+
+kept-one-of : (w : Width) (least most n : ℕ) (front rest : List ℕ) → n < 256 ^ widthOf w → allowed least most n ≡ true → Kept (OneOf w least most) (uint n) front (be (widthOf w) n) rest
+unfolding opened
+kept-one-of x least most n front rest h a =
+    let w = widthOf x in
+    let l : length (be w n) ≡ w = be-length w n in
+    record {
+      place = record { start = length front; len = w; value = n };
+      found = one-of-there w least most n rest (length front) h ∙ rw a;
+      end = omega arith;
+      same = refl;
+    }
+
+-- bytes of fixed length that are there
+pub fixed-there : (b rest : List ℕ) (at : ℕ) → fixedAt (length b) (b ++ rest) at ≡ Found (record { start = at; len = length b; value = length b })
+unfolding fixedAt
+fixed-there b rest at =
+    let room : length b ≤ length (b ++ rest) = omega (arith, length-append b rest) in
+    rw (le-ltb _ _ room)
+
+kept-fixed : (v front rest : List ℕ) → Kept (Fixed (length v)) (bytes v) front v rest
+unfolding opened
+kept-fixed v front rest =
+    record {
+      place = record { start = length front; len = length v; value = length v };
+      found = fixed-there v rest (length front);
+      end = omega arith;
+      same = ap (λ (x : List ℕ). bytes (take (length v) x)) (drop-at front (v ++ rest) (length front) refl) ∙ ap bytes (take-at v rest (length v) refl);
     }
 
 module _ (width : Width) (least most : ℕ) (i : Inner) (v front rest : List ℕ) where
@@ -151,3 +202,39 @@ kept (Vector w least most i) (bytes v) front b rest typed e =
     let h = filled-vector (widthOf w) least most i v (length front) b e in
     subst (λ (x : List ℕ). Kept (Vector w least most i) (bytes v) front x rest) (sym (h .is))
     (kept-vector w least most i v front rest typed (h .low) (h .high) (h .round) (h .fine))
+kept (OneOf w least most) (bytes v) front b rest typed e = absurd typed
+kept (OneOf w least most) (uint n) front b rest typed e =
+    let h = filled-one-of (widthOf w) least most n (length front) b e in
+    subst (λ (x : List ℕ). Kept (OneOf w least most) (uint n) front x rest) (sym (h .1)) (kept-one-of w least most n front rest typed (h .0))
+kept (Fixed n) (uint m) front b rest typed e = absurd typed
+kept (Fixed n) (bytes v) front b rest typed e =
+    let h = filled-fixed n v (length front) b e in
+    subst (λ (x : List ℕ). Kept (Fixed n) (bytes v) front x rest) (sym (h .1)) (subst (λ (k : ℕ). Kept (Fixed k) (bytes v) front v rest) (h .0) (kept-fixed v front rest))
+
+-- one of few: judged where it stands
+allowed-is : (least most n : ℕ) → least ≤ n → n ≤ most → allowed least most n ≡ true
+allowed-is least most n low high = rw (le-leb least n low, le-leb n most high)
+
+allowed-not : (least most n : ℕ) → (least ≤ n → n ≤ most → ⊥) → allowed least most n ≡ false
+allowed-not least most n h = go (leb least n) (leb n most) refl refl
+  where
+    go : (a b : Bool) → leb least n ≡ a → leb n most ≡ b → (a && b) ≡ false
+    go true true ha hb = absurd (h (leb-true least n ha) (leb-true n most hb))
+    go true false ha hb = refl
+    go false b ha hb = refl
+
+pub one-of-judged : OneOfJudged
+unfolding oneOfFilled
+one-of-judged w least most n rest at fit =
+    ((λ low high. let a = allowed-is least most n low high in (one-of-there (widthOf w) least most n rest at fit ∙ rw a, rw a)),
+    λ h. let a = allowed-not least most n h in (one-of-there (widthOf w) least most n rest at fit ∙ rw a, rw a))
+
+pub fixed-as-is : FixedAsIs
+unfolding fixedFilled
+fixed-as-is n b rest at =
+    ((λ e. (subst (λ (k : ℕ). fixedAt k (b ++ rest) at ≡ Found (record { start = at; len = k; value = k })) e (fixed-there b rest at), rw (eq-eqb _ _ e))),
+    λ h. rw (ne-eqb _ _ h))
+
+pub cut-first : CutFirst
+unfolding oneOfAt numberAt fixedAt
+cut-first w least most n r at = ((λ h. rw (lt-ltb _ _ h)), λ h. rw (lt-ltb _ _ h))

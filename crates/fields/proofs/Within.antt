@@ -10,7 +10,7 @@ use lib.Seq.{drop-drop}
 use Rattle.octets.specs.Numbers.{widthOf, unbe}
 use Rattle.fields.specs.declared.layout.Part.{Part}
 use Rattle.fields.specs.declared.layout.Field.{Field}
-use Rattle.fields.specs.declared.layout.Field.the-variants.{Uint, Vector}
+use Rattle.fields.specs.declared.layout.Field.the-variants.{Uint, Vector, OneOf, Fixed}
 use Rattle.fields.specs.declared.layout.Inside.the-variants.{Fine}
 use Rattle.fields.specs.declared.layout.FieldRead.{FieldRead}
 use Rattle.fields.specs.declared.layout.FieldRead.the-variants.{Found, Bad}
@@ -153,10 +153,14 @@ read-count (f ∷ fs) s at ps e = go (field f (drop at s) at) e (λ p. read-coun
 -- a field that was found is whole: a vector's elements are fine
 abbrev pub Whole : List ℕ → Field → Part → Type 0
 Whole s (Uint w) p = Unit
+Whole s (OneOf w least most) p = Unit
+Whole s (Fixed n) p = Unit
 Whole s (Vector w least most i) p = (p .start + p .len ≤ length s) × (inside i (bytesAt s p) (p .start) ≡ Fine)
 
 pub found-whole : (s : List ℕ) (f : Field) (at : ℕ) (p : Part) → at ≤ length s → field f (drop at s) at ≡ Found p → Whole s f p
 found-whole s (Uint w) at p h e = tt
+found-whole s (OneOf w least most) at p h e = tt
+found-whole s (Fixed n) at p h e = tt
 found-whole s (Vector w least most i) at p h e =
     let u = widthOf w in
     let v = found-vector u least most i (drop at s) at p e in

@@ -1,6 +1,7 @@
 -- What is claimed of fields and layouts: proved in proofs/. Assumes nothing: these are statements.
 use Prim.Native.Nat.{ℕ, _+_, _-_, _*_, _^_, _≤_, _<_}
 use mathlib.Core.Path.{_≡_}
+use mathlib.Core.Logic.{_≢_}
 use mathlib.Core.List.{List, [], _∷_, _++_}
 use lib.ListN.{length, getD, take, drop}
 use Rattle.octets.specs.Bytes.{Bytes, joined}
@@ -9,8 +10,8 @@ use Rattle.octets.specs.Numbers.{widthOf, be}
 use Rattle.fields.specs.declared.layout.Part.{Part}
 use Rattle.fields.specs.declared.layout.Inner.{Inner}
 use Rattle.fields.specs.declared.layout.Field.{Field}
-use Rattle.fields.specs.declared.layout.Field.the-variants.{Uint, Vector}
-use Rattle.fields.specs.declared.layout.FieldRead.the-variants.{Found}
+use Rattle.fields.specs.declared.layout.Field.the-variants.{Uint, Vector, OneOf, Fixed}
+use Rattle.fields.specs.declared.layout.FieldRead.the-variants.{Found, Bad}
 use Rattle.fields.specs.Checked.{good, bad}
 use Rattle.fields.specs.Layout.{inside, whole, field, read, partsFound, bytesAt}
 use Rattle.fields.specs.Write.{Value, uint, bytes, fill, Filled, write, opened, values}
@@ -28,6 +29,10 @@ Typed (Uint w) (uint n) = n < 256 ^ widthOf w
 Typed (Uint w) (bytes v) = ⊥
 Typed (Vector w least most i) (uint n) = ⊥
 Typed (Vector w least most i) (bytes v) = most < 256 ^ widthOf w
+Typed (OneOf w least most) (uint n) = n < 256 ^ widthOf w
+Typed (OneOf w least most) (bytes v) = ⊥
+Typed (Fixed n) (uint m) = ⊥
+Typed (Fixed n) (bytes v) = Unit
 
 -- one field that was filled is found, whatever stands before it and behind it, with its value
 pub record Kept (f : Field) (v : Value) (front b rest : List ℕ) : Type 0 where
@@ -46,6 +51,29 @@ VectorByElements =
     (w : Width) (least most : ℕ) (i : Inner) (b rest : List ℕ) (at : ℕ) → least ≤ length b → length b ≤ most → length b < 256 ^ widthOf w
     → field (Vector w least most i) ((be (widthOf w) (length b) ++ b) ++ rest) at
     ≡ whole (inside i b (at + widthOf w)) (record { start = at + widthOf w; len = length b; value = length b })
+
+-- a number that is there is taken exactly if it is one of the few, whatever comes behind it; any other is 4 where it starts, read and written
+abbrev pub OneOfJudged : Type 0
+OneOfJudged =
+    (w : Width) (least most n : ℕ) (rest : List ℕ) (at : ℕ) → n < 256 ^ widthOf w
+    → (least ≤ n → n ≤ most
+      → (field (OneOf w least most) (be (widthOf w) n ++ rest) at ≡ Found (record { start = at; len = widthOf w; value = n }))
+      × (fill (OneOf w least most) (uint n) at ≡ good (be (widthOf w) n)))
+    × ((least ≤ n → n ≤ most → ⊥)
+      → (field (OneOf w least most) (be (widthOf w) n ++ rest) at ≡ Bad 4 at) × (fill (OneOf w least most) (uint n) at ≡ bad 4 at))
+
+-- bytes of a fixed length stand as they are, whatever comes behind them; others are 5 where they would start
+abbrev pub FixedAsIs : Type 0
+FixedAsIs =
+    (n : ℕ) (b rest : List ℕ) (at : ℕ)
+    → (length b ≡ n → (field (Fixed n) (b ++ rest) at ≡ Found (record { start = at; len = n; value = n })) × (fill (Fixed n) (bytes b) at ≡ good b))
+    × (length b ≢ n → fill (Fixed n) (bytes b) at ≡ bad 5 at)
+
+-- where there are too few bytes for either, it is cut, whatever they are
+abbrev pub CutFirst : Type 0
+CutFirst =
+    (w : Width) (least most n : ℕ) (r : List ℕ) (at : ℕ)
+    → (length r < widthOf w → field (OneOf w least most) r at ≡ Bad 2 at) × (length r < n → field (Fixed n) r at ≡ Bad 2 at)
 
 -- over any layout: what is read, written again, is the same bytes
 abbrev pub LayoutAgain : Type 0

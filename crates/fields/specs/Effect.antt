@@ -30,6 +30,14 @@ unwritten x at out = record { answer = bad x at; bytes = out }
 abbrev pub wrote : List ℕ → List ℕ → Effect
 wrote b out = record { answer = good (length b); bytes = b ++ drop (length b) out }
 
+-- no buffer is longer than this; a place past it is none, as there is no room up to it
+abbrev pub longest : ℕ
+longest = 9223372036854775807
+
+abbrev pub within : Checked (List ℕ) → Checked (List ℕ)
+within (good b) = good b
+within (bad x at) = cond (ltb longest at) (bad 9 0) (bad x at)
+
 -- bytes put into the lent ones; 9 at 0 where they do not fit; a refusal leaves the lent bytes as they are
 abbrev pub effect : List ℕ → Checked (List ℕ) → Effect
 effect out (bad x at) = unwritten x at out

@@ -13,7 +13,7 @@ use Rattle.fields.specs.declared.layout.Order.the-variants.{Ordered, Uno
 use Rattle.fields.specs.declared.layout.Inner.{Inner}
 use Rattle.fields.specs.declared.layout.Inner.the-variants.{Opaque, ExtensionList, NodeList}
 use Rattle.fields.specs.declared.layout.Field.{Field}
-use Rattle.fields.specs.declared.layout.Field.the-variants.{Uint, Vector}
+use Rattle.fields.specs.declared.layout.Field.the-variants.{Uint, Vector, OneOf, Fixed}
 use Rattle.fields.specs.declared.layout.FieldRead.the-variants.{Bad}
 use Rattle.fields.specs.declared.layout.Inside.the-variants.{Fine, Wrong}
 use Rattle.fields.specs.Checked.{Checked, good, bad}
@@ -84,6 +84,8 @@ anyOrder NodeList = NodeList
 abbrev pub unordered : Field → Field
 unordered (Uint w) = Uint w
 unordered (Vector w least most i) = Vector w least most (anyOrder i)
+unordered (OneOf w least most) = OneOf w least most
+unordered (Fixed n) = Fixed n
 
 -- over any layout: what is read now was read by the older rule, and alike
 abbrev pub StillRead : Type 0
@@ -119,6 +121,8 @@ BodyInOrder NodeList b = Unit
 abbrev pub FieldInOrder : Field → List ℕ → Part → Type 0
 FieldInOrder (Uint w) s p = Unit
 FieldInOrder (Vector w least most i) s p = BodyInOrder i (bytesAt s p)
+FieldInOrder (OneOf w least most) s p = Unit
+FieldInOrder (Fixed n) s p = Unit
 
 abbrev pub InOrder : List Field → List ℕ → List Part → Type 0
 InOrder [] s ps = Unit

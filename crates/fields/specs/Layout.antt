@@ -1,9 +1,9 @@
 -- Reading by a layout, which is a list of fields. Numbers are big-endian (RFC 9162, section 1.2, and RFC 8446, section 3). Assumes nothing.
 use Prim.Native.Nat.{ℕ, zero, suc, _+_, _-_}
 use mathlib.Core.List.{List, [], _∷_}
-use mathlib.Core.Bool.{Bool, false, cond}
+use mathlib.Core.Bool.{Bool, false, cond, _&&_}
 use lib.ListN.{length, getD, take, drop}
-use lib.Dec.{ltb, eqb}
+use lib.Dec.{ltb, leb, eqb}
 use Rattle.octets.specs.Numbers.{widthOf, unbe}
 use Rattle.fields.specs.declared.layout.Part.{Part}
 use Rattle.fields.specs.declared.layout.Order.{Order}
@@ -11,7 +11,7 @@ use Rattle.fields.specs.declared.layout.Order.the-variants.{Ordered, Uno
 use Rattle.fields.specs.declared.layout.Inner.{Inner}
 use Rattle.fields.specs.declared.layout.Inner.the-variants.{Opaque, ExtensionList, NodeList}
 use Rattle.fields.specs.declared.layout.Field.{Field}
-use Rattle.fields.specs.declared.layout.Field.the-variants.{Uint, Vector}
+use Rattle.fields.specs.declared.layout.Field.the-variants.{Uint, Vector, OneOf, Fixed}
 use Rattle.fields.specs.declared.layout.FieldRead.{FieldRead}
 use Rattle.fields.specs.declared.layout.FieldRead.the-variants.{Found, Bad}
 use Rattle.fields.specs.declared.layout.Step.{Step}
@@ -80,10 +80,27 @@ vectorAt w least most i r at =
     (whole (inside i (take (unbe (take w r)) (drop w r)) (at + w))
     (record { start = at + w; len = unbe (take w r); value = unbe (take w r) })))))
 
+-- a number that must be one of few, which stand in a row: cut 2, any other number 4
+abbrev pub allowed : ℕ → ℕ → ℕ → Bool
+allowed least most n = leb least n && leb n most
+
+abbrev pub among : ℕ → ℕ → FieldRead → FieldRead
+among least most (Found p) = cond (allowed least most (p .value)) (Found p) (Bad 4 (p .start))
+among least most (Bad x at) = Bad x at
+
+unfoldable pub oneOfAt : ℕ → ℕ → ℕ → List ℕ → ℕ → FieldRead
+oneOfAt w least most r at = among least most (numberAt w r at)
+
+-- n bytes with no prefix
+unfoldable pub fixedAt : ℕ → List ℕ → ℕ → FieldRead
+fixedAt n r at = cond (ltb (length r) n) (Bad 2 at) (Found (record { start = at; len = n; value = n }))
+
 -- a field by its kind
 abbrev pub field : Field → List ℕ → ℕ → FieldRead
 field (Uint w) r at = numberAt (widthOf w) r at
 field (Vector w least most i) r at = vectorAt (widthOf w) least most i r at
+field (OneOf w least most) r at = oneOfAt (widthOf w) least most r at
+field (Fixed n) r at = fixedAt n r at
 
 -- go on past a field, or refuse
 abbrev pub next : {A : Type 0} → FieldRead → (Part → Checked A) → Checked A

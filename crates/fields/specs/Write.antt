@@ -2,20 +2,20 @@
 use Prim.Native.Nat.{ℕ, zero, suc, _+_, _*_, _/_, _%_}
 use mathlib.Core.List.{List, [], _∷_, _++_}
 use mathlib.Core.Bool.{Bool, true, cond}
-use lib.ListN.{length, take, drop}
+use lib.ListN.{length, getD, take, drop}
 use lib.Dec.{ltb, eqb}
 use Rattle.octets.specs.Numbers.{widthOf, be}
 use Rattle.fields.specs.declared.layout.Part.{Part}
 use Rattle.fields.specs.declared.layout.Inner.{Inner}
 use Rattle.fields.specs.declared.layout.Inner.the-variants.{Opaque, ExtensionList, NodeList}
 use Rattle.fields.specs.declared.layout.Field.{Field}
-use Rattle.fields.specs.declared.layout.Field.the-variants.{Uint, Vector}
+use Rattle.fields.specs.declared.layout.Field.the-variants.{Uint, Vector, OneOf, Fixed}
 use Rattle.fields.specs.declared.layout.Inside.{Inside}
 use Rattle.fields.specs.declared.layout.Inside.the-variants.{Fine, Wrong}
 use Rattle.fields.specs.Checked.{Checked, good, bad, then}
-use Rattle.fields.specs.Layout.{inside, bytesAt}
+use Rattle.fields.specs.Layout.{inside, allowed, bytesAt}
 
--- a field's value: a number, or the bytes that a vector stands for
+-- a field's value: a number, or the bytes that a vector stands for or that have a fixed length
 pub data Value : Type 0 where
   uint : ℕ → Value
   bytes : List ℕ → Value
@@ -77,19 +77,32 @@ vectorFilled w least most i v at =
     (fine (inside i (wrap i v) (at + w)) (vectorBytes w i v))
     (bad 10 at)))
 
+-- a number that must be one of few: 4 for any other; and bytes of a fixed length: 5 for another
+unfoldable pub oneOfFilled : ℕ → ℕ → ℕ → ℕ → ℕ → Checked (List ℕ)
+oneOfFilled w least most n at = cond (allowed least most n) (good (be w n)) (bad 4 at)
+
+unfoldable pub fixedFilled : ℕ → List ℕ → ℕ → Checked (List ℕ)
+fixedFilled n v at = cond (eqb (length v) n) (good v) (bad 5 at)
+
 -- a field by its kind, filled with a value; and what it is laid out as, whether its value is refused or not
 abbrev pub fill : Field → Value → ℕ → Checked (List ℕ)
 fill (Uint w) v at = good (be (widthOf w) (numberIn v))
 fill (Vector w least most i) v at = vectorFilled (widthOf w) least most i (bytesIn v) at
+fill (OneOf w least most) v at = oneOfFilled (widthOf w) least most (numberIn v) at
+fill (Fixed n) v at = fixedFilled n (bytesIn v) at
 
 abbrev pub laid : Field → Value → List ℕ
 laid (Uint w) v = be (widthOf w) (numberIn v)
 laid (Vector w least most i) v = vectorBytes (widthOf w) i (bytesIn v)
+laid (OneOf w least most) v = be (widthOf w) (numberIn v)
+laid (Fixed n) v = bytesIn v
 
 -- a field's value out of a number and some bytes: the one that its kind has no use for is not looked at
 abbrev pub held : Field → ℕ → List ℕ → Value
 held (Uint w) n v = uint n
 held (Vector w least most i) n v = bytes v
+held (OneOf w least most) n v = uint n
+held (Fixed m) n v = bytes v
 
 -- a field with its value
 pub record Filled : Type 0 where
@@ -105,10 +118,21 @@ unfoldable pub write : List Filled → ℕ → Checked (List ℕ)
 write [] at = good []
 write (f ∷ fs) at = then (fill (f .field) (f .value) at) (λ b. join b (write fs (at + length b)))
 
+-- the bytes that the fields of a layout are filled with, by their places
+abbrev pub eight : List ℕ → List ℕ → List ℕ → List ℕ → List ℕ → List ℕ → List ℕ → List ℕ → List (List ℕ)
+eight a b c d e f g h = a ∷ b ∷ c ∷ d ∷ e ∷ f ∷ g ∷ h ∷ []
+
+-- the fields of a layout, each with the number and the bytes of its place
+abbrev pub filledBy : List Field → List ℕ → List (List ℕ) → List Filled
+filledBy [] ns vs = []
+filledBy (f ∷ fs) ns vs = record { field = f; value = held f (getD ns 0 0) (getD vs 0 []) } ∷ filledBy fs (drop 1 ns) (drop 1 vs)
+
 -- the value that was read at a part
 unfoldable pub opened : Field → Part → List ℕ → Value
 opened (Uint w) p s = uint (p .value)
 opened (Vector w least most i) p s = bytes (unwrap i (bytesAt s p))
+opened (OneOf w least most) p s = uint (p .value)
+opened (Fixed n) p s = bytes (bytesAt s p)
 
 -- the fields of a layout with the values that were read at their parts
 unfoldable pub values : List Field → List Part → List ℕ → List Filled

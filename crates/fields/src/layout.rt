@@ -6,10 +6,10 @@ ghost use mathlib.Core.Path.{_≡_};
 ghost use Prim.Native.Nat.{_-_, _<_, _≤_};
 ghost use lib.ListN.{length, drop};
 ghost use Rattle.octets.specs.Numbers.{widthOf};
-ghost use Rattle.fields.specs.Layout.{outOfOrder, element, inside, numberAt, vectorAt, field};
+ghost use Rattle.fields.specs.Layout.{outOfOrder, element, inside, numberAt, vectorAt, allowed, oneOfAt, fixedAt, field};
 ghost use Rattle.fields.specs.Inner.{part};
 
-// Where a field lies, past its length prefix if it has one, and the number read there: a number's value, a vector's length.
+// Where a field lies, past its length prefix if it has one, and the number read there: a number's value, a vector's length, that of fixed bytes.
 pub struct Part {
     pub start: usize,
     pub len: usize,
@@ -29,7 +29,8 @@ pub enum Inner {
     NodeList,
 }
 
-// A kind of field: a number of so many bytes; a vector with so wide a prefix and a range for its length.
+// A kind of field: a number of so many bytes; a vector with so wide a prefix and a range for its length; a number that must be one of few, which stand in a
+// row; bytes of a fixed length, with no prefix.
 pub enum Field {
     Uint(Width),
     Vector {
@@ -38,6 +39,12 @@ pub enum Field {
         most: usize,
         inner: Inner,
     },
+    OneOf {
+        width: Width,
+        least: u64,
+        most: u64,
+    },
+    Fixed(usize),
 }
 
 pub enum FieldRead {
@@ -214,6 +221,52 @@ fn read_uint(s: &[u8], at: usize, width: Width) -> FieldRead
     })
 }
 
+// Whether a number is one of the few from `least` to `most`.
+pub(crate) fn is_allowed(n: u64, least: u64, most: u64) -> bool
+    ensures { λ r. ⌜ r ≡ allowed least most n ⌝ }
+{
+    if n < least {
+        return false;
+    }
+    n <= most
+}
+
+fn read_one_of(s: &[u8], at: usize, width: Width, least: u64, most: u64) -> FieldRead
+    ensures { λ r. ⌜ r ≡ oneOfAt (widthOf width) least most (drop at (now (s .entry))) at ⌝ }
+{
+    let r = read_uint(s, at, width);
+    match r {
+        FieldRead::Bad { number, place } => FieldRead::Bad { number, place },
+        FieldRead::Found(p) => {
+            let fine = is_allowed(p.value, least, most);
+            if fine {
+                return FieldRead::Found(p);
+            }
+            FieldRead::Bad {
+                number: 4,
+                place: p.start,
+            }
+        }
+    }
+}
+
+fn read_fixed(s: &[u8], at: usize, n: usize) -> FieldRead
+    ensures { λ r. ⌜ r ≡ fixedAt n (drop at (now (s .entry))) at ⌝ }
+{
+    let left = left_of(s.len(), at);
+    if left < n {
+        return FieldRead::Bad {
+            number: 2,
+            place: at,
+        };
+    }
+    FieldRead::Found(Part {
+        start: at,
+        len: n,
+        value: n as u64,
+    })
+}
+
 // The field that starts at a place. Past the end of the bytes every field is cut short.
 pub fn read_field(s: &[u8], at: usize, f: Field) -> FieldRead
     ensures { λ r. ⌜ r ≡ field f (drop at (now (s .entry))) at ⌝ }
@@ -226,5 +279,7 @@ pub fn read_field(s: &[u8], at: usize, f: Field) -> FieldRead
             most,
             inner,
         } => read_vector(s, at, width, least, most, inner),
+        Field::OneOf { width, least, most } => read_one_of(s, at, width, least, most),
+        Field::Fixed(n) => read_fixed(s, at, n),
     }
 }

@@ -2,15 +2,16 @@
 // front and a range for it. A layout is a list of fields. A format is a table of layouts over this crate: reading and writing over any layout, the places
 // of refusals and both round trips are defined and proved here, once. Every function takes any bytes, any place and any range.
 //
-// layout: the kinds of field, and reading one    reading: all fields of a layout    writing: one field, the other way
+// layout: the kinds of field, and reading one    reading: all fields of a layout    writing, laying: the same, the other way
 // path: a vector of node hashes, joined
+pub mod laying;
 pub mod layout;
 pub mod path;
 pub mod reading;
 pub mod writing;
 
 ghost use Rattle.fields.specs.Claims.{ReadThenFilled, FilledThenRead, VectorByElements, LayoutAgain, LayoutBack, FieldsWithin, RefusedWithin};
-ghost use Rattle.fields.specs.Claims.{FoundBefore, CopiedIsJoined, JoinedIsCopied, CopyKeeps};
+ghost use Rattle.fields.specs.Claims.{OneOfJudged, FixedAsIs, CutFirst, FoundBefore, CopiedIsJoined, JoinedIsCopied, CopyKeeps};
 ghost use Rattle.fields.specs.Extensions.{FineIsExtended, OneList, FifteenIsOutOfOrder, StillRead, RefusedByOrder, FifteenInList};
 ghost use Rattle.fields.specs.Extensions.{ReadByOrder, OrderFirst, RefusedAsRead, LayoutRefusedAsRead};
 
@@ -19,6 +20,9 @@ pub fn claims()
     ensures read_then_filled { λ _. ⌜ ReadThenFilled ⌝ }
     ensures filled_then_read { λ _. ⌜ FilledThenRead ⌝ }
     ensures vector_by_elements { λ _. ⌜ VectorByElements ⌝ }
+    ensures one_of_judged { λ _. ⌜ OneOfJudged ⌝ }
+    ensures fixed_as_is { λ _. ⌜ FixedAsIs ⌝ }
+    ensures cut_first { λ _. ⌜ CutFirst ⌝ }
     ensures layout_again { λ _. ⌜ LayoutAgain ⌝ }
     ensures layout_back { λ _. ⌜ LayoutBack ⌝ }
     ensures fields_within { λ _. ⌜ FieldsWithin ⌝ }

@@ -25,7 +25,7 @@ pub struct LayoutRead {
 }
 
 // How many of the most fields are meant by a count.
-fn counted(count: usize) -> usize
+pub(crate) fn counted(count: usize) -> usize
     ensures { λ r. ⌜ (r ≤ 8) × ((layout : List declared.Field) → length layout ≡ 8 → take count layout ≡ take r layout) ⌝ }
 {
     if MOST_FIELDS < count {

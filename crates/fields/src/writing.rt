@@ -3,6 +3,7 @@ use crate::layout::Field;
 use crate::layout::Inner;
 use crate::layout::Inside;
 use crate::layout::check_inside;
+use crate::layout::is_allowed;
 use crate::layout::left_of;
 use octets::Width;
 use octets::put;
@@ -15,7 +16,7 @@ ghost use lib.ListN.{length, take, drop};
 ghost use Rattle.octets.specs.Bytes.{put as putBytes, putWithin};
 ghost use Rattle.octets.specs.Numbers.{widthOf};
 ghost use Rattle.fields.specs.Layout.{inside};
-ghost use Rattle.fields.specs.Write.{wrap, bodySize, wholes, prefixed, vectorBytes, vectorFilled, fill, laid, held};
+ghost use Rattle.fields.specs.Write.{wrap, bodySize, wholes, prefixed, vectorBytes, vectorFilled, oneOfFilled, fixedFilled, fill, laid, held};
 ghost use Rattle.fields.specs.Effect.{takes};
 
 // How many bytes were written; or the number and the place of a refusal.
@@ -103,9 +104,34 @@ fn check_vector(v: &[u8], width: Width, least: usize, most: usize, inner: Inner)
     }
 }
 
-// What a field takes that is filled with some bytes, or why it is refused. A number takes its width, and the bytes are not looked at.
-pub fn check_field(v: &[u8], f: Field) -> Fill
-    ensures { λ r. ⌜ r ≡ takes (fill f (held f 0 (now (v .entry))) 0) ⌝ }
+fn check_one_of(n: u64, width: Width, least: u64, most: u64) -> Fill
+    ensures { λ r. ⌜ r ≡ takes (oneOfFilled (widthOf width) least most n 0) ⌝ }
+{
+    let fine = is_allowed(n, least, most);
+    if fine {
+        return Fill::Takes(width_of(width));
+    }
+    Fill::Not {
+        number: 4,
+        place: 0,
+    }
+}
+
+fn check_fixed(v: &[u8], n: usize) -> Fill
+    ensures { λ r. ⌜ r ≡ takes (fixedFilled n (now (v .entry)) 0) ⌝ }
+{
+    if v.len() != n {
+        return Fill::Not {
+            number: 5,
+            place: 0,
+        };
+    }
+    Fill::Takes(n)
+}
+
+// What a field takes that is filled with a number or with some bytes, or why it is refused. The one that its kind has no use for is not looked at.
+pub fn check_field(n: u64, v: &[u8], f: Field) -> Fill
+    ensures { λ r. ⌜ r ≡ takes (fill f (held f n (now (v .entry))) 0) ⌝ }
 {
     match f {
         Field::Uint(width) => Fill::Takes(width_of(width)),
@@ -115,6 +141,8 @@ pub fn check_field(v: &[u8], f: Field) -> Fill
             most,
             inner,
         } => check_vector(v, width, least, most, inner),
+        Field::OneOf { width, least, most } => check_one_of(n, width, least, most),
+        Field::Fixed(size) => check_fixed(v, size),
     }
 }
 
@@ -200,5 +228,17 @@ pub fn put_field(out: &mut [u8], at: usize, f: Field, n: u64, v: &[u8]) -> usize
             most: _,
             inner,
         } => put_vector(out, at, v, width, inner),
+        Field::OneOf {
+            width,
+            least: _,
+            most: _,
+        } => {
+            put_number(out, at, width, n);
+            width_of(width)
+        }
+        Field::Fixed(_) => {
+            put(out, at, v);
+            v.len()
+        }
     }
 }

@@ -18,25 +18,25 @@ use Rattle.item.specs.declared.writer.Numbers.{Numbers}
 use Rattle.fields.specs.Write.{Value, held}
 use Rattle.item.specs.Item.{Vectors, valueOf, filled}
 use Rattle.item.specs.Steps.{numberBy, bytesBy}
-use Rattle.fields.proofs.Filling.{nothing}
+use Rattle.fields.proofs.Filling.{nothing, Unjudged}
 
--- the most that a field of the table takes is little beside the largest place
-pub most-small : (n : Name) → most (fieldOf n) ≤ 4294967303
-most-small Timestamp = omega arith
-most-small Size = omega arith
-most-small SizeOne = omega arith
-most-small SizeTwo = omega arith
-most-small Place = omega arith
-most-small Agreement = omega arith
-most-small PageNumber = omega arith
-most-small LogId = omega arith
-most-small IssuerKeyHash = omega arith
-most-small Certificate = omega arith
-most-small RootHash = omega arith
-most-small Extensions = omega arith
-most-small Signature = omega arith
-most-small Path = omega arith
-most-small Body = omega arith
+-- the most that a field of the table takes is little beside the largest place, and no number of an item is judged
+pub most-small : (n : Name) → (most (fieldOf n) ≤ 4294967303) × Unjudged (fieldOf n)
+most-small Timestamp = (omega arith, tt)
+most-small Size = (omega arith, tt)
+most-small SizeOne = (omega arith, tt)
+most-small SizeTwo = (omega arith, tt)
+most-small Place = (omega arith, tt)
+most-small Agreement = (omega arith, tt)
+most-small PageNumber = (omega arith, tt)
+most-small LogId = (omega arith, tt)
+most-small IssuerKeyHash = (omega arith, tt)
+most-small Certificate = (omega arith, tt)
+most-small RootHash = (omega arith, tt)
+most-small Extensions = (omega arith, tt)
+most-small Signature = (omega arith, tt)
+most-small Path = (omega arith, tt)
+most-small Body = (omega arith, tt)
 
 pub layout-length : (c : Case) → length (layoutOf c) ≡ length (namesOf c)
 layout-length c = go (namesOf c)

@@ -93,7 +93,7 @@ fn bytes_of<'a>(
     }
 }
 
-// The first pass: where the item ends, or its first refusal.
+// The first pass: where the item ends, or its first refusal. No number of an item is judged, so none is looked at.
 fn measure<'a>(
     case: Case,
     log: &'a [u8],
@@ -128,7 +128,7 @@ fn measure<'a>(
             path,
             body,
         );
-        let c = check_field(v, f);
+        let c = check_field(0, v, f);
         match c {
             Fill::Not { number, place } => {
                 return Fill::Not {

@@ -14,7 +14,7 @@ use Rattle.item.specs.Steps.{numberBy}
 use Rattle.fields.specs.Inner.{ends}
 use Rattle.fields.specs.Effect.{takes}
 use Rattle.fields.proofs.Fills.{most}
-use Rattle.fields.proofs.Filling.{nothing, takes-held, takes-short, takes-near, takes-moved, not-moved, stops, goes, ended}
+use Rattle.fields.proofs.Filling.{nothing, Unjudged, takes-held, takes-short, takes-near, takes-moved, not-moved, stops, goes, ended}
 use Rattle.item.proofs.Rows.{most-small, filled-length, one-at}
 use Rattle.item.proofs.writer.measure.Statement.{statement}
 use Rattle.item.proofs.writer.measure.Tie as tie
@@ -78,21 +78,21 @@ is k x =
 left : (k : tie.After-check-field Inv-loop μ-loop) (x : Numbers) → top k .loop .i < length (filled x (T (top k)) (names (top k)))
 left k x = let l = top k in omega (arith, filled-length x (T l) (names l), l .loop .inv .2)
 
+-- a field of the table takes few bytes, is refused within them, and its number is not judged
+few : (k : tie.After-check-field Inv-loop μ-loop) → (most (k .before .before .field-of .result) ≤ 4294967303) × Unjudged (k .before .before .field-of .result)
+few k = let l = top k in rw (k .before .before .field-of .ensures) (most-small (getD (l .before .before .names-of .result) (l .loop .i) Timestamp))
+
 said : (k : tie.After-check-field Inv-loop μ-loop) (x : Numbers) → takes (fill (one k x .field) (one k x .value) 0) ≡ k .check-field .result
-said k x = sym (k .check-field .ensures ∙ takes-held (k .before .before .field-of .result) (number k x) (k .before .bytes-of .result .now) 0)
+said k x = sym (k .check-field .ensures ∙ takes-held (k .before .before .field-of .result) (number k x) (k .before .bytes-of .result .now) 0 (few k .1))
 
 enum-known-c : tie.Need-enum-known-c Inv-loop μ-loop
 enum-known-c c = search needs
-
--- a field of the table takes few bytes, and is refused within them
-few : (k : tie.After-check-field Inv-loop μ-loop) → most (k .before .before .field-of .result) ≤ 4294967303
-few k = let l = top k in rw (k .before .before .field-of .ensures) (most-small (getD (l .before .before .names-of .result) (l .loop .i) Timestamp))
 
 add-place : tie.Need-add-t26 Inv-loop μ-loop
 add-place c =
     let k = c .before .before .before in
     let f = k .before .before .field-of .result in
-    omega (arith, few k, takes-near f (held f 0 (k .before .bytes-of .result .now)) _ _ (sym (k .check-field .ensures) ∙ c .before .c .given .1), top k .loop .inv .1, top k .before .count-of .ensures .1)
+    omega (arith, few k .0, takes-near f (held f 0 (k .before .bytes-of .result .now)) _ _ (sym (k .check-field .ensures) ∙ c .before .c .given .1), top k .loop .inv .1, top k .before .count-of .ensures .1)
 
 returns : tie.Need-returns Inv-loop μ-loop
 returns c =
@@ -108,7 +108,7 @@ small : (c : tie.After-known-told2 Inv-loop μ-loop) → c .before .c2 .given .0
 small c =
     let k = c .before .before .before in
     let f = k .before .before .field-of .result in
-    omega (arith, few k, takes-short f (held f 0 (k .before .bytes-of .result .now)) _ (sym (k .check-field .ensures) ∙ c .before .c2 .given .1))
+    omega (arith, few k .0, takes-short f (held f 0 (k .before .bytes-of .result .now)) _ (sym (k .check-field .ensures) ∙ c .before .c2 .given .1))
 
 add-at : tie.Need-add-at Inv-loop μ-loop
 add-at c = omega (arith, small c, top (c .before .before .before) .before .count-of .ensures .1)
