@@ -14,6 +14,7 @@ pub mod Sorting
 pub mod Refusing
 pub mod Numbered
 pub mod Resuming
+pub mod Telling
 pub mod Filling
 pub mod Reaching
 pub mod Putting

@@ -13,14 +13,13 @@ use Rattle.octets.specs.Bytes.{put}
 use Rattle.octets.specs.declared.number.Width.the-variants.{One}
 use Rattle.fields.specs.declared.layout.Field.{Field}
 use Rattle.fields.specs.declared.layout.Field.the-variants.{Uint}
-use Rattle.fields.specs.declared.writing.Fill.{Fill}
 use Rattle.fields.specs.declared.writing.Fill.the-variants.{Takes, Not}
 use Rattle.fields.specs.Checked.{Checked, good, bad, then, moved}
 use Rattle.fields.specs.Write.{Value, fill, Filled, join, write, held, filledBy}
-use Rattle.fields.specs.Effect.{Effect, longest, within, unwritten, wrote, effect}
+use Rattle.fields.specs.Effect.{longest, within, unwritten, wrote, effect}
 use Rattle.fields.specs.Inner.{ends, reached, written, Good}
 use Rattle.fields.specs.Claims.{layout}
-use Rattle.fields.proofs.Answers.{good-bad, same-place}
+use Rattle.fields.proofs.Answers.{bad-good, good-bad, same-good, same-place}
 use Rattle.fields.proofs.Fills.{most, fill-short, fill-near, fill-moved}
 use Rattle.fields.proofs.Filling.{nothing, not-takes, takes-not, same-takes}
 
@@ -81,6 +80,20 @@ write-between (f ∷ fs) at x y e = go (fill (f .field) (f .value) at) refl e (�
         more (bad u z) ha e =
             let k = less (at + length b) (ha ∙ e) in
             (omega (arith, k .0), omega (arith, k .1, fill-short (f .field) (f .value) at b h))
+
+-- and what is written is no longer
+pub write-short : (fs : List Filled) (at : ℕ) (b : List ℕ) → write fs at ≡ good b → length b ≤ mostAll (layout fs)
+unfolding write
+write-short [] at b e = omega (arith, ap length (same-good [] b e))
+write-short (f ∷ fs) at b e = go (fill (f .field) (f .value) at) refl e (λ c. write-short fs (at + length c))
+  where
+    go : (x : Checked (List ℕ)) → fill (f .field) (f .value) at ≡ x → then x (λ c. join c (write fs (at + length c))) ≡ good b → ((c d : List ℕ) → write fs (at + length c) ≡ good d → length d ≤ mostAll (layout fs)) → length b ≤ most (f .field) + mostAll (layout fs)
+    go (bad x y) h e less = bad-good x y b e
+    go (good c) h e less = deep (write fs (at + length c)) refl e
+      where
+        deep : (a : Checked (List ℕ)) → write fs (at + length c) ≡ a → join c a ≡ good b → length b ≤ most (f .field) + mostAll (layout fs)
+        deep (bad x y) k e = bad-good x y b e
+        deep (good d) k e = omega (arith, ap length (same-good (c ++ d) b e), length-append c d, less c d k, fill-short (f .field) (f .value) at c h)
 
 -- where a layout takes little, every place is one that a buffer can have
 pub within-write : (fs : List Filled) → mostAll (layout fs) ≤ longest → within (write fs 0) ≡ write fs 0

@@ -2,7 +2,7 @@
 use mathlib.Core.Path.{_≡_, refl, ap, sym, subst, _∙_}
 use mathlib.Core.List.{List, [], _∷_, _++_, map}
 use mathlib.Core.Bool.{Bool, true, false, cond}
-use Prim.Native.Nat.{ℕ, suc, _+_, _/_, _≤_}
+use Prim.Native.Nat.{ℕ, _+_, _/_, _≤_}
 use native.Mathlib.Omega.{arith}
 use lib.ListN.{length, getD, take, drop, length-append, take-append-drop}
 use lib.Dec.{ltb, eqb}
@@ -10,8 +10,6 @@ use lib.Seq.{take-at, length-take-le, take-all}
 use borrow.Author.Tests.{le-ltb, ltb-false}
 use Rattle.fields.specs.declared.layout.Part.{Part}
 use Rattle.fields.specs.declared.layout.Field.{Field}
-use Rattle.fields.specs.declared.layout.FieldRead.{FieldRead}
-use Rattle.fields.specs.declared.layout.FieldRead.the-variants.{Found, Bad}
 use Rattle.item.specs.declared.table.Name.{Name}
 use Rattle.item.specs.declared.table.Name.the-variants.{Timestamp, Size, SizeOne, SizeTwo, Place, Agreement, PageNumber, LogId, IssuerKeyHash, Certificate, RootHash, Extensions, Signature, Path, Body}
 use Rattle.item.specs.declared.table.Case.{Case}
@@ -19,8 +17,8 @@ use Rattle.item.specs.declared.table.Case.the-variants.{Entry, Receipt, 
 use Rattle.item.specs.declared.writer.Numbers.{Numbers}
 use Rattle.fields.specs.Checked.{Checked, good, bad, then}
 use Rattle.octets.specs.Numbers.{unbe, be}
-use Rattle.fields.specs.Layout.{field, next, push, read, bytesAt}
-use Rattle.fields.specs.Write.{fill, Filled, join, write, values, opened, unwrap, stripped}
+use Rattle.fields.specs.Layout.{field, read, bytesAt}
+use Rattle.fields.specs.Write.{Filled, join, write, values, opened, unwrap, stripped}
 use Rattle.octets.specs.Limits.{mostItem}
 use Rattle.item.specs.Table.{TypeRow, fieldOf, namesOf, layoutOf, types, find}
 use Rattle.item.specs.Item.{Reading, item, readBy, readItem, Vectors, vectors, valueOf, filled, writeItem}
@@ -29,7 +27,7 @@ use Rattle.item.specs.Claims.{ReadThenWritten, Gives, ReadGives, Sized, 
 use Rattle.fields.proofs.Answers.{bad-good, good-bad, same-good, same-place}
 use Rattle.fields.proofs.Lent.{refused-keeps, past-keeps}
 use Rattle.octets.proofs.Numbers.{be-length, unbe-be, be-unbe}
-use Rattle.fields.proofs.Fills.{most, fill-short}
+use Rattle.fields.proofs.Reaching.{mostAll, write-short}
 use Rattle.fields.proofs.Vectors.{bytes-take}
 use Rattle.fields.specs.Claims.{Typed, AllTyped, no-fields, one-field, layout}
 use Rattle.fields.proofs.Rounds.{write-again, read-back}
@@ -141,30 +139,13 @@ layout-filled n t [] = refl
 layout-filled n t (x ∷ ns) = ap (λ (l : List Field). fieldOf x ∷ l) (layout-filled n t ns)
 
 -- the longest item of each line is within the limit
-abbrev total : List Field → ℕ
-total [] = 0
-total (f ∷ fs) = most f + total fs
-
-total-short : (c : Case) → total (layoutOf c) ≤ 33554430
+total-short : (c : Case) → mostAll (layoutOf c) ≤ 33554430
 total-short Entry = omega arith
 total-short Receipt = omega arith
 total-short SignedHead = omega arith
 total-short Consistency = omega arith
 total-short Inclusion = omega arith
 total-short Page = omega arith
-
-write-short : (fs : List Filled) (at : ℕ) (b : List ℕ) → write fs at ≡ good b → length b ≤ total (layout fs)
-unfolding write
-write-short [] at b e = omega (arith, ap length (same-good [] b e))
-write-short (f ∷ fs) at b e = go (fill (f .field) (f .value) at) refl e (λ c. write-short fs (at + length c))
-  where
-    go : (x : Checked (List ℕ)) → fill (f .field) (f .value) at ≡ x → then x (λ c. join c (write fs (at + length c))) ≡ good b → ((c d : List ℕ) → write fs (at + length c) ≡ good d → length d ≤ total (layout fs)) → length b ≤ most (f .field) + total (layout fs)
-    go (bad x y) h e less = bad-good x y b e
-    go (good c) h e less = deep (write fs (at + length c)) refl e
-      where
-        deep : (a : Checked (List ℕ)) → write fs (at + length c) ≡ a → join c a ≡ good b → length b ≤ most (f .field) + total (layout fs)
-        deep (bad x y) k e = bad-good x y b e
-        deep (good d) k e = omega (arith, ap length (same-good (c ++ d) b e), length-append c d, less c d k, fill-short (f .field) (f .value) at c h)
 
 -- an item that was written
 record WasWritten (k : ℕ) (n : Numbers) (t : Vectors) (out : List ℕ) (m : ℕ) : Type 0 where
@@ -204,7 +185,7 @@ written-then-read k n t out m z e =
     let s : take m (writeItem k n t out .bytes) ≡ be 2 k ++ b = ap (take m) (h .bytes) ∙ take-at (be 2 k ++ b) (drop m out) m (h .size) in
     let y : layout (filled n t (namesOf c)) ≡ layoutOf c = layout-filled n t (namesOf c) in
     let q = read-back (filled n t (namesOf c)) (be 2 k) b (all-typed k n t z (namesOf c)) (rw l (h .fields)) in
-    let short : length (be 2 k ++ b) ≤ mostItem = omega (arith, length-append (be 2 k) b, write-short (filled n t (namesOf c)) 2 b (h .fields), ap total y, total-short c) in
+    let short : length (be 2 k ++ b) ≤ mostItem = omega (arith, length-append (be 2 k) b, write-short (filled n t (namesOf c)) 2 b (h .fields), ap mostAll y, total-short c) in
     let two : 2 ≤ length (be 2 k ++ b) = omega (arith, length-append (be 2 k) b) in
     let u : unbe (take 2 (be 2 k ++ b)) ≡ k = ap unbe (take-at (be 2 k) b 2 l) ∙ unbe-be 2 k (z .kind) in
     let rd : read (layoutOf c) (be 2 k ++ b) 2 ≡ good (q .parts) = rw (y, l) at (q .read) in

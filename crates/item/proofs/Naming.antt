@@ -1,24 +1,20 @@
 -- What is read of a line's layout, as an item; and what a refusal met. Assumes nothing.
-use mathlib.Core.Path.{_≡_, refl, ap, sym, _∙_}
-use mathlib.Core.List.{List, [], _∷_, _++_}
+use mathlib.Core.Path.{_≡_, refl, _∙_}
+use mathlib.Core.List.{List}
 use mathlib.Core.Bool.{Bool, true, false, cond}
-use Prim.Native.Nat.{ℕ, _+_, _≤_, _<_}
+use Prim.Native.Nat.{ℕ}
 use native.Mathlib.Omega.{arith}
-use lib.ListN.{length, getD, take, drop, length-append, length-drop}
+use lib.ListN.{length, getD, take}
 use lib.Dec.{ltb}
-use lib.Seq.{take-at}
-use borrow.Author.Tests.{lt-ltb, le-ltb, ltb-true, ltb-false}
+use borrow.Author.Tests.{ltb-true, ltb-false}
 use Rattle.octets.specs.Limits.{mostItem}
 use Rattle.octets.specs.Numbers.{unbe}
 use Rattle.fields.specs.declared.layout.Part.{Part}
-use Rattle.fields.specs.declared.reading.LayoutRead.{LayoutRead}
 use Rattle.fields.specs.Checked.{Checked, good, bad, then}
 use Rattle.fields.specs.Layout.{read, partsFound}
-use Rattle.fields.specs.Answers.{noParts, withZeros, layoutRead}
-use Rattle.fields.specs.Claims.{Each, Met}
+use Rattle.fields.specs.Claims.{Met}
 use Rattle.fields.proofs.Answers.{bad-good, good-bad, same-number, same-place}
-use Rattle.fields.proofs.Within.{read-found, read-count, found-few, found-before}
-use Rattle.fields.proofs.Numbered.{read-numbered}
+use Rattle.fields.proofs.Within.{found-before}
 use Rattle.item.specs.declared.table.Case.{Case}
 use Rattle.item.specs.declared.table.Name.the-variants.{Timestamp}
 use Rattle.item.specs.declared.table.Met.{Met as MetKind}
@@ -29,7 +25,7 @@ use Rattle.item.specs.declared.reader.Item.the-variants.{Inclusion as in
 use Rattle.item.specs.Table.{namesOf, layoutOf, metIn, types, find}
 use Rattle.item.specs.Item.{Reading, item, reading, readBy, Meets, metAfter, metBy}
 use Rattle.item.specs.Claims.{Meeting, whole, typeBytes, named, after, NamesItsField}
-use Rattle.item.proofs.Rows.{layout-length, count-small}
+use Rattle.item.proofs.Rows.{layout-length}
 use Rattle.item.proofs.Items.{find-place}
 
 -- an item that was read met nothing
@@ -41,47 +37,6 @@ reads-meets (signedHead k a b c d f g) q m e = tt
 reads-meets (consistency k a b c d) q m e = tt
 reads-meets (inclusion k a b c d) q m e = tt
 reads-meets (page k a b c d) q m e = tt
-
-module _ (s : List ℕ) (c : Case) where
-  abbrev parts : List Part
-  parts = partsFound (layoutOf c) s 2
-
-  few : length parts ≤ 6
-  few = omega (arith, found-few (layoutOf c) s 2, layout-length c, count-small c)
-
-  padded-length : length (withZeros parts) ≡ 8
-  padded-length = omega (arith, length-append parts (drop (length parts) noParts), length-drop (length parts) noParts, few)
-
-  -- what the struct says, whatever was read
-  says : (a : Checked (List Part)) → (layoutRead parts a .met ≡ length parts) × (layoutRead parts a .parts ≡ withZeros parts)
-  says (good ps) = (refl, refl)
-  says (bad x y) = (refl, refl)
-
-  module _ (r : LayoutRead) (e : r ≡ layoutRead parts (read (layoutOf c) s 2)) where
-    pub eight : length (r .parts) ≡ 8
-    eight = ap (λ (x : LayoutRead). length (x .parts)) e ∙ ap length (says (read (layoutOf c) s 2) .1) ∙ padded-length
-
-    pub met-count : r .met ≡ length parts
-    met-count = ap (λ (x : LayoutRead). x .met) e ∙ says (read (layoutOf c) s 2) .0
-
-module _ (s : List ℕ) (c : Case) (k : ℕ) (r : LayoutRead) (e : r ≡ layoutRead (partsFound (layoutOf c) s 2) (read (layoutOf c) s 2)) where
-  pub refused-layout : (r .number ≡ 0 → ⊥) → bad (r .number) (r .place) ≡ then (read (layoutOf c) s 2) (item c k)
-  refused-layout h = go (read (layoutOf c) s 2) refl e
-    where
-      go : (a : Checked (List Part)) → read (layoutOf c) s 2 ≡ a → r ≡ layoutRead (partsFound (layoutOf c) s 2) a → bad (r .number) (r .place) ≡ then a (item c k)
-      go (good ps) ha e = absurd (h (ap (λ (x : LayoutRead). x .number) e))
-      go (bad x y) ha e = ap (λ (z : LayoutRead). bad (z .number) (z .place)) e
-
-  pub read-layout : r .number ≡ 0 → item c k (take (length (namesOf c)) (r .parts)) ≡ then (read (layoutOf c) s 2) (item c k)
-  read-layout z = go (read (layoutOf c) s 2) refl e
-    where
-      go : (a : Checked (List Part)) → read (layoutOf c) s 2 ≡ a → r ≡ layoutRead (partsFound (layoutOf c) s 2) a → item c k (take (length (namesOf c)) (r .parts)) ≡ then a (item c k)
-      go (bad x y) ha e = absurd (let n : r .number ≡ x = ap (λ (w : LayoutRead). w .number) e in omega (arith, read-numbered (layoutOf c) s 2 x y ha))
-      go (good ps) ha e =
-          let f : partsFound (layoutOf c) s 2 ≡ ps = read-found (layoutOf c) s 2 ps ha in
-          let l : length ps ≡ length (namesOf c) = read-count (layoutOf c) s 2 ps ha ∙ layout-length c in
-          let p : r .parts ≡ ps ++ drop (length ps) noParts = ap (λ (w : LayoutRead). w .parts) e ∙ ap withZeros f in
-          ap (λ (x : List Part). item c k (take (length (namesOf c)) x)) p ∙ ap (item c k) (take-at ps (drop (length ps) noParts) (length (namesOf c)) l)
 
 -- a refusal names what it met
 met-field : (s : List ℕ) (c : Case) (x at : ℕ) → find types (unbe (take 2 s)) ≡ good c → read (layoutOf c) s 2 ≡ bad x at → Meeting s x at (metIn c (length (partsFound (layoutOf c) s 2)))

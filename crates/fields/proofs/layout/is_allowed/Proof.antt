@@ -1,7 +1,6 @@
-use mathlib.Core.Path.{_≡_, sym}
-use mathlib.Core.Bool.{false, _&&_}
+use mathlib.Core.Path.{_≡_}
+use mathlib.Core.Bool.{false}
 use Prim.Native.Nat.{ℕ, _≤_, _<_}
-use native.Mathlib.Omega.{arith}
 use lib.Dec.{leb}
 use borrow.Author.Tests.{lt-leb, le-leb}
 use Rattle.fields.specs.Layout.{allowed}

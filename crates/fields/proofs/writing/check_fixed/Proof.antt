@@ -1,9 +1,8 @@
-use mathlib.Core.Path.{_≡_, sym}
+use mathlib.Core.Path.{_≡_}
 use mathlib.Core.List.{List}
 use Prim.Native.Nat.{ℕ}
 use lib.ListN.{length}
 use borrow.Author.Tests.{eq-eqb, ne-eqb}
-use borrow.Author.Needs.{needs}
 use Rattle.fields.specs.declared.writing.Fill.the-variants.{Takes, Not}
 use Rattle.fields.specs.Write.{fixedFilled}
 use Rattle.fields.specs.Effect.{takes}

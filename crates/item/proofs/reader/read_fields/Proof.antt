@@ -1,16 +1,19 @@
-use mathlib.Core.Path.{_≡_, refl, ap, sym, _∙_}
+use mathlib.Core.Path.{_≡_, ap, sym, _∙_}
 use mathlib.Core.List.{List}
-use Prim.Native.Nat.{ℕ, _≤_}
+use Prim.Native.Nat.{ℕ}
 use native.Mathlib.Omega.{arith}
-use lib.ListN.{length, take}
+use lib.ListN.{take}
 use borrow.Author.Needs.{needs}
 use Rattle.fields.specs.declared.layout.Field.{Field}
-use Rattle.fields.specs.declared.reading.LayoutRead.{LayoutRead}
 use Rattle.fields.specs.Layout.{read, partsFound}
 use Rattle.fields.specs.Answers.{layoutRead}
-use Rattle.item.specs.Table.{namesOf, layoutOf, metIn}
-use Rattle.item.specs.Item.{Meets}
-use Rattle.item.proofs.Naming.{eight, met-count, refused-layout, read-layout, reads-meets}
+use Rattle.item.specs.Table.{layoutOf, metIn}
+use Rattle.item.specs.Item.{item}
+use Rattle.fields.specs.declared.layout.Part.{Part}
+use Rattle.fields.specs.Checked.{Checked, then}
+use Rattle.fields.proofs.Telling.{told-eight, told-met, told-refused, told-read}
+use Rattle.item.proofs.Rows.{layout-length, count-small}
+use Rattle.item.proofs.Naming.{reads-meets}
 use Rattle.item.proofs.reader.read_fields.Statement.{statement}
 use Rattle.item.proofs.reader.read_fields.Tie as tie
 
@@ -29,17 +32,17 @@ returns : tie.Need-returns
 returns c =
     let l = c .before .before in
     let a = entry l .args in
-    (refused-layout (a .s .now) (a .case) (a .kind) (l .read-layout .result) (said l) (c .before .if1 .taken), c .met-behind .ensures ∙ ap (metIn (a .case)) (met-count (a .s .now) (a .case) (l .read-layout .result) (said l)))
+    (sym (ap (λ (x : Checked (List Part)). then x (item (a .case) (a .kind))) (told-refused (layoutOf (a .case)) (a .s .now) 2 (l .read-layout .result) (said l) (c .before .if1 .taken))), c .met-behind .ensures ∙ ap (metIn (a .case)) (told-met (layoutOf (a .case)) (a .s .now) 2 (l .read-layout .result) (said l)))
 
 named-requires : tie.Need-named-requires
-named-requires c κs = let l = c .before .before in let a = entry l .args in eight (a .s .now) (a .case) (l .read-layout .result) (said l)
+named-requires c κs = let l = c .before .before in let a = entry l .args in told-eight (layoutOf (a .case)) (a .s .now) 2 (l .read-layout .result) (said l) (omega (arith, layout-length (a .case), count-small (a .case)))
 
 returns-2 : tie.Need-returns-2
 returns-2 c =
     let l = c .before .before .before in
     let a = entry l .args in
     let e = c .named .ensures in
-    (e ∙ read-layout (a .s .now) (a .case) (a .kind) (l .read-layout .result) (said l) (omega arith), reads-meets (c .named .result) _ _ e)
+    (e ∙ sym (ap (λ (x : Checked (List Part)). then x (item (a .case) (a .kind))) (told-read (layoutOf (a .case)) (a .s .now) 2 (l .read-layout .result) (said l) (omega arith)) ∙ ap (λ (k : ℕ). item (a .case) (a .kind) (take k (l .read-layout .result .parts))) (layout-length (a .case))), reads-meets (c .named .result) _ _ e)
 
 pub read-fields-spec : {M : Type 1} → statement M
 read-fields-spec =

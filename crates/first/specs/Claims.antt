@@ -1,0 +1,117 @@
+-- What is proved of whole structures beside the promises, in the words of the second demand. Assumes nothing: these are statements.
+use Prim.Native.Nat.{ℕ, _+_, _^_, _≤_, _<_}
+use mathlib.Core.Path.{_≡_}
+use mathlib.Core.Logic.{_↔_, _≢_}
+use mathlib.Core.List.{List, [], _∷_, _++_}
+use lib.ListN.{length, take, drop}
+use Rattle.octets.specs.Bytes.{Bytes}
+use Rattle.octets.specs.Limits.{mostItem}
+use Rattle.octets.specs.Numbers.{be}
+use Rattle.fields.specs.Checked.{Checked, good, bad}
+use Rattle.fields.specs.Layout.{bytesAt}
+use Rattle.fields.specs.Effect.{wrote}
+use Rattle.fields.specs.Claims.{Each}
+use Rattle.first.specs.declared.reader.First.{First}
+use Rattle.first.specs.declared.reader.First.the-variants.{X509Entry as x509Entry, PrecertEntry as precertEntry}
+use Rattle.first.specs.declared.reader.First.the-variants.{CertificateTimestamp as certificateTimestamp, TreeHead as treeHead, Refused as refused}
+use Rattle.first.specs.declared.writer.Numbers.{Numbers}
+use Rattle.first.specs.Structures.{Structure, encoded, Fits, nameOf}
+use Rattle.first.specs.First.{Reading, reading, readFirst, Vectors, writeFirst}
+
+-- What a caller takes of the reader's answer and hands to the writer, with the same name: each number as it was answered, the other fields' bytes where they
+-- lie. Version, leaf type and signature type have one value each, and the writer is not given them.
+abbrev pub Taken : List ℕ → First → Numbers → Vectors → Type 0
+Taken s (x509Entry version leafType timestamp entryType certificate extensions) n t =
+    (n .timestamp ≡ timestamp .value) × (n .«entry_type» ≡ entryType .value) × (t .certificate ≡ bytesAt s certificate) × (t .extensions ≡ bytesAt s extensions)
+Taken s (precertEntry version leafType timestamp entryType issuerKeyHash tbsCertificate extensions) n t =
+    (n .timestamp ≡ timestamp .value) × (n .«entry_type» ≡ entryType .value) × (t .issuerKeyHash ≡ bytesAt s issuerKeyHash)
+    × (t .certificate ≡ bytesAt s tbsCertificate) × (t .extensions ≡ bytesAt s extensions)
+Taken s (certificateTimestamp version logId timestamp extensions algorithms signature) n t =
+    (t .logId ≡ bytesAt s logId) × (n .timestamp ≡ timestamp .value) × (t .extensions ≡ bytesAt s extensions) × (n .algorithms ≡ algorithms .value)
+    × (t .signature ≡ bytesAt s signature)
+Taken s (treeHead version signatureType timestamp size rootHash) n t =
+    (n .timestamp ≡ timestamp .value) × (n .size ≡ size .value) × (t .rootHash ≡ bytesAt s rootHash)
+Taken s (refused number place) n t = ⊥
+
+-- what is read, written again, is the same bytes
+abbrev pub ReadThenWritten : Type 0
+ReadThenWritten =
+    (e w : ℕ) (s out : List ℕ) (i : First) (n : Numbers) (t : Vectors) → Bytes s → reading i ≡ readFirst e w s → Taken s i n t → length s ≤ length out
+    → writeFirst e w n t out ≡ wrote s out
+
+-- numbers as wide as the writer takes them
+pub record Sized (n : Numbers) : Type 0 where
+  pub timestamp : n .timestamp < 2 ^ 64
+  pub size : n .size < 2 ^ 64
+  pub entryType : n .«entry_type» < 2 ^ 16
+  pub algorithms : n .algorithms < 2 ^ 16
+
+-- what is written reads back as the same fields
+abbrev pub WrittenThenRead : Type 0
+WrittenThenRead =
+    (e w : ℕ) (n : Numbers) (t : Vectors) (out : List ℕ) (m : ℕ) (i : First) → Sized n → writeFirst e w n t out .answer ≡ good m
+    → reading i ≡ readFirst e w (take m (writeFirst e w n t out .bytes)) → Taken (take m (writeFirst e w n t out .bytes)) i n t
+
+-- a refusal of the writer changes no byte; otherwise the bytes past those written stay
+abbrev pub WriterKeeps : Type 0
+WriterKeeps =
+    (e w : ℕ) (n : Numbers) (t : Vectors) (out : List ℕ)
+    → ((x at : ℕ) → writeFirst e w n t out .answer ≡ bad x at → writeFirst e w n t out .bytes ≡ out)
+    × ((m : ℕ) → writeFirst e w n t out .answer ≡ good m → drop m (writeFirst e w n t out .bytes) ≡ drop m out)
+
+-- a refusal of the reader is given at a place within the input, or at its end; every field lies within the input
+abbrev pub RefusedWithin : Type 0
+RefusedWithin = (e w : ℕ) (s : List ℕ) (x at : ℕ) → readFirst e w s ≡ bad x at → at ≤ length s
+
+abbrev pub FieldsWithin : Type 0
+FieldsWithin = (e w : ℕ) (s : List ℕ) (r : Reading) → readFirst e w s ≡ good r → Each (λ p. p .start + p .len ≤ length s) (r .fields)
+
+-- bytes that are a structure of the name that was given, as RFC 6962 writes it
+pub record Encodes (e w : ℕ) (s : List ℕ) : Type 0 where
+  pub is : Structure
+  pub fits : Fits is
+  pub edition : e ≡ 1
+  pub named : w ≡ nameOf is
+  pub bytes : s ≡ encoded is
+
+abbrev pub IsRead : Checked Reading → Type 0
+IsRead (good r) = Unit
+IsRead (bad x at) = ⊥
+
+-- bytes are read exactly if they are such a structure
+abbrev pub ReadIsEncoded : Type 0
+ReadIsEncoded = (e w : ℕ) (s : List ℕ) → Bytes s → IsRead (readFirst e w s) ↔ Encodes e w s
+
+-- and what is written is one
+abbrev pub WrittenIsEncoded : Type 0
+WrittenIsEncoded =
+    (e w : ℕ) (n : Numbers) (t : Vectors) (out : List ℕ) (m : ℕ) → Sized n → writeFirst e w n t out .answer ≡ good m
+    → Encodes e w (take m (writeFirst e w n t out .bytes))
+
+-- 1 comes first, whatever the name; then the name, whatever the bytes, and for the writer whatever the fields and the room
+abbrev pub LongFirst : Type 0
+LongFirst = (e w : ℕ) (s : List ℕ) → mostItem < length s → readFirst e w s ≡ bad 1 0
+
+abbrev pub Named : ℕ → ℕ → Type 0
+Named e w = (e ≡ 1) × (1 ≤ w) × (w ≤ 3)
+
+abbrev pub NameNext : Type 0
+NameNext =
+    (e w : ℕ) → (Named e w → ⊥)
+    → ((s : List ℕ) → length s ≤ mostItem → readFirst e w s ≡ bad 4 0)
+    × ((n : Numbers) (t : Vectors) (out : List ℕ) → writeFirst e w n t out .answer ≡ bad 4 0)
+
+-- a version, leaf type, signature type or entry type that is not allowed is 4 where it starts, whatever comes behind it; for the writer it is the entry type
+abbrev pub FourThere : Type 0
+FourThere =
+    (w b : ℕ) (r : List ℕ) → Named 1 w
+    → (length (b ∷ r) ≤ mostItem → b ≢ 0 → readFirst 1 w (b ∷ r) ≡ bad 4 0)
+    × (length (0 ∷ b ∷ r) ≤ mostItem → b ≢ 0 → readFirst 1 1 (0 ∷ b ∷ r) ≡ bad 4 1)
+    × (length (0 ∷ b ∷ r) ≤ mostItem → b ≢ 1 → readFirst 1 3 (0 ∷ b ∷ r) ≡ bad 4 1)
+    × ((time k : ℕ) → length (0 ∷ 0 ∷ be 8 time ++ (be 2 k ++ r)) ≤ mostItem → time < 2 ^ 64 → 1 < k → k < 2 ^ 16
+      → readFirst 1 1 (0 ∷ 0 ∷ be 8 time ++ (be 2 k ++ r)) ≡ bad 4 10)
+    × ((n : Numbers) (t : Vectors) (out : List ℕ) → 1 < n .«entry_type» → writeFirst 1 1 n t out .answer ≡ bad 4 10)
+
+-- extensions are opaque here: no order is asked
+abbrev pub NoFifteen : Type 0
+NoFifteen = (e w : ℕ) (s : List ℕ) (y : ℕ) → readFirst e w s ≢ bad 15 y
