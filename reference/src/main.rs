@@ -7,7 +7,7 @@
 //!   talk PROGRAM           talk to a program that answers requests: line by line, with lines too long and cut off
 //!   counts PROGRAM SEED    compare the counts of nodes that a program answers, 15 million of them
 //!   extensions PROGRAM     compare what a program says of extensions in every order, 3 million items
-//!   first PROGRAM          compare what a program says of every structure of the first edition, half a million requests
+//!   first PROGRAM          compare what a program says of every structure of the first edition, 550,000 requests
 
 use reference::requests::{self, Requests, LAYERS};
 use reference::{counts, extensions, pace, structures, talk};

@@ -50,7 +50,7 @@ impl Sample {
 static SAMPLES: LazyLock<Vec<Sample>> = LazyLock::new(samples);
 static TREES: LazyLock<Vec<Vec<u8>>> = LazyLock::new(trees);
 
-/// The two lengths of a layout's vectors, in layout order: certificate and extensions, or extensions and signature.
+/// The two vectors of a layout, in layout order: certificate and extensions, or extensions and signature.
 fn set_vectors(which: u16, fields: &mut Fields, one: Vec<u8>, two: Vec<u8>) {
     match which {
         LEAF => (fields.certificate, fields.extensions) = (one, two),
@@ -138,6 +138,8 @@ enum Way {
     Start(u16, u16, usize),
     /// With one byte changed.
     Changed(usize, u8),
+    /// Changed, and nothing behind that byte.
+    Last(usize, u8),
     /// What is read of it then, written again.
     Again(usize, u8),
     /// With so many bytes after it.
@@ -168,6 +170,7 @@ impl Question for Asked {
         let words = match way {
             Way::Start(edition, which, count) => read_words(edition, which, &sample.whole[..count]),
             Way::Changed(at, byte) => read_words(EDITION, which, &changed(sample, at, byte)),
+            Way::Last(at, byte) => read_words(EDITION, which, &changed(sample, at, byte)[..at + 1]),
             Way::More(count) => read_words(EDITION, which, &[&sample.whole[..], &vec![0; count]].concat()),
             Way::Again(at, byte) => {
                 let input = changed(sample, at, byte);
@@ -191,12 +194,17 @@ impl Question for Asked {
     }
 }
 
+/// Every name, and two whose low bytes are those of the structure.
+fn all_names(which: u16) -> impl Iterator<Item = (u16, u16)> {
+    names().chain([(256 + EDITION, which), (EDITION, 256 + which)])
+}
+
 /// What is read of a structure.
 fn reads(sample: &'static Sample) -> Vec<Way> {
     let (which, whole) = (sample.which, &sample.whole);
     let mut all: Vec<Way> = (0..=whole.len()).map(|count| Way::Start(EDITION, which, count)).collect();
     all.extend([1, 2, 32, 33].map(Way::More));
-    for (edition, which) in names() {
+    for (edition, which) in all_names(which) {
         all.extend([0, 1, whole.len()].map(|count| Way::Start(edition, which, count)));
     }
     for at in 0..whole.len() {
@@ -211,6 +219,9 @@ fn reads(sample: &'static Sample) -> Vec<Way> {
         others.dedup();
         for byte in others.into_iter().filter(|byte| *byte != own) {
             all.push(Way::Changed(at, byte));
+            if is_judged {
+                all.push(Way::Last(at, byte));
+            }
             if (is_judged || byte == next) && first::read(EDITION, which, &changed(sample, at, byte)).is_ok() {
                 all.push(Way::Again(at, byte));
             }
@@ -223,7 +234,7 @@ fn reads(sample: &'static Sample) -> Vec<Way> {
 fn writes(sample: &'static Sample) -> Vec<Way> {
     let (which, length) = (sample.which, sample.whole.len());
     let mut all: Vec<Way> = [length, length + 1, length - 1, 0].map(|room| Way::Write(EDITION, which, [None; 2], room)).to_vec();
-    for (edition, which) in names() {
+    for (edition, which) in all_names(which) {
         all.push(Way::Write(edition, which, [None; 2], length));
     }
     let sets = |field: usize| values(field).into_iter().map(move |to| (field, to));
@@ -372,6 +383,7 @@ mod tests {
             ("read", "2"),
             ("read", "3"),
             ("read", "4"),
+            ("read", "5"),
             ("root", "0"),
             ("write", "0"),
             ("write", "4"),
