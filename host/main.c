@@ -163,6 +163,45 @@ static void orders(uint8_t first, uint8_t second, uint32_t want, uint64_t want_p
     holds_true("two extensions' place", place == want_place);
 }
 
+/* The first bytes of a structure of RFC 6962, read under a name. */
+static void reads_first(const char *what, uint16_t edition, uint16_t which, const uint8_t *bytes, size_t length,
+                        uint32_t want, uint64_t want_place)
+{
+    uint64_t place = ODD;
+    expect(what, mta_first(edition, which, bytes, length, &place), want);
+    holds_true(what, place == want_place);
+}
+
+/* A leaf of RFC 6962: version, leaf type, timestamp, entry type at 10, certificate at 12, extensions at 16. And a
+ * head: version, signature type, timestamp, size, root at 18. */
+static void first_edition(void)
+{
+    uint8_t entry[] = {0, 0, 0, 0, 0, 0, 0, 0, 0, 7, 0, 0, 0, 0, 1, 'c', 0, 0, 0}, head[51] = {0, 1};
+    const size_t length = sizeof entry - 1;
+
+    reads_first("a leaf of RFC 6962", 1, 1, entry, length, MTA_OK, 0);
+    reads_first("cut in its entry type", 1, 1, entry, 11, MTA_CUT, 10);
+    reads_first("cut in its extensions", 1, 1, entry, length - 1, MTA_CUT, 16);
+    reads_first("one byte more", 1, 1, entry, length + 1, MTA_EXTRA, 18);
+    reads_first("no bytes", 1, 1, NULL, 0, MTA_CUT, 0);
+    reads_first("no structure of this name", 1, 4, entry, length, MTA_TYPE, 0);
+    reads_first("no edition of this name", 2, 1, entry, length, MTA_TYPE, 0);
+    reads_first("no bytes, no name", 0, 0, NULL, 0, MTA_TYPE, 0);
+    reads_first("a leaf as a head", 1, 3, entry, length, MTA_TYPE, 1);
+    entry[14] = 0;
+    reads_first("a certificate without a byte", 1, 1, entry, length, MTA_LENGTH, 12);
+    entry[11] = 2;
+    reads_first("entry type 2", 1, 1, entry, length, MTA_TYPE, 10);
+    entry[0] = 1;
+    reads_first("version 1", 1, 1, entry, length, MTA_TYPE, 0);
+    reads_first("a head of RFC 6962", 1, 3, head, 50, MTA_OK, 0);
+    reads_first("a head of 49 bytes", 1, 3, head, 49, MTA_CUT, 18);
+    reads_first("a head of 51 bytes", 1, 3, head, 51, MTA_EXTRA, 50);
+    head[1] = 0;
+    reads_first("the other signature type", 1, 3, head, 50, MTA_TYPE, 1);
+    reads_first("a receipt of zeros", 1, 2, (const uint8_t[47]){0}, 47, MTA_OK, 0);
+}
+
 /* Every number has words, and no two of the table have the same. */
 static void words(void)
 {
@@ -318,6 +357,7 @@ int main(void)
     orders(1, 2, MTA_OK, 0);
     orders(1, 1, MTA_ORDER, 19);
     orders(2, 1, MTA_ORDER, 19);
+    first_edition();
 
     past_32_bits(a, b);
     largest_size(last3, d, g, k);

@@ -119,6 +119,16 @@ uint32_t mta_root(const uint8_t *leaves, size_t leaves_len, uint8_t *MTA_RESTRIC
  * extension whose type is not above the one before it; MTA_CUT of its own comes first), MTA_EXTRA. */
 uint32_t mta_item(const uint8_t *item, size_t item_len, uint64_t *MTA_RESTRICT place);
 
+/* Reads a structure of an earlier edition: edition 1 is RFC 6962, the only one here. which is 1 for a
+ * MerkleTreeLeaf (section 3.4), 2 for a SignedCertificateTimestamp (3.2), 3 for the signed portion of a tree
+ * head (3.5), 50 bytes. Extensions and algorithms are not judged, and a signature may be empty. After MTA_OK
+ * *place is 0. After a refusal it is where the field at fault starts, of MTA_EXTRA the first extra byte, and of
+ * MTA_LONG and of a name that is none 0.
+ * Refusals: MTA_LONG (over 33,554,432 bytes), MTA_TYPE (edition or which is none of these), then left to right
+ * MTA_CUT, MTA_TYPE (a version, leaf type, entry type or signature type), MTA_LENGTH, MTA_EXTRA. */
+uint32_t mta_first(uint16_t edition, uint16_t which, const uint8_t *bytes, size_t bytes_len,
+                   uint64_t *MTA_RESTRICT place);
+
 /* Writes a consistency item (type 0x0105) from a log id of 2 to 127 bytes, two sizes and a joined path.
  * After MTA_OK the first *written bytes of out are the item, and the rest of out is as before.
  * Refusals: MTA_LENGTH, MTA_JOINED, MTA_ROOM. */

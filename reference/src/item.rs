@@ -14,7 +14,7 @@ pub struct Refusal {
     pub place: usize,
 }
 
-fn refuse<T>(number: u64, place: usize) -> Result<T, Refusal> {
+pub(crate) fn refuse<T>(number: u64, place: usize) -> Result<T, Refusal> {
     Err(Refusal { number, place })
 }
 
@@ -38,18 +38,18 @@ pub enum Item {
 }
 
 /// Reads from the left.
-struct Reader<'a> {
-    bytes: &'a [u8],
-    at: usize,
+pub(crate) struct Reader<'a> {
+    pub bytes: &'a [u8],
+    pub at: usize,
 }
 
 impl Reader<'_> {
-    fn left(&self) -> usize {
+    pub fn left(&self) -> usize {
         self.bytes.len() - self.at
     }
 
     /// A number of `width` bytes.
-    fn number(&mut self, width: usize) -> Result<u64, Refusal> {
+    pub fn number(&mut self, width: usize) -> Result<u64, Refusal> {
         if self.left() < width {
             return refuse(2, self.at);
         }
@@ -59,7 +59,7 @@ impl Reader<'_> {
     }
 
     /// A vector with a prefix of `width` bytes: the prefix, its range, the body.
-    fn vector(&mut self, width: usize, least: usize, most: usize) -> Result<Span, Refusal> {
+    pub fn vector(&mut self, width: usize, least: usize, most: usize) -> Result<Span, Refusal> {
         let start = self.at;
         let length = self.number(width)? as usize;
         if length < least || length > most {
@@ -232,17 +232,17 @@ impl Fields {
 
 /// Writes to the right.
 #[derive(Default)]
-struct Writer {
-    bytes: Vec<u8>,
+pub(crate) struct Writer {
+    pub bytes: Vec<u8>,
 }
 
 impl Writer {
-    fn number(&mut self, value: u64, width: usize) {
+    pub fn number(&mut self, value: u64, width: usize) {
         self.bytes.extend(&value.to_be_bytes()[8 - width..]);
     }
 
     /// A length out of range is refused where the field would start.
-    fn vector(&mut self, body: &[u8], width: usize, least: usize, most: usize) -> Result<(), Refusal> {
+    pub fn vector(&mut self, body: &[u8], width: usize, least: usize, most: usize) -> Result<(), Refusal> {
         if body.len() < least || body.len() > most {
             return refuse(5, self.bytes.len());
         }

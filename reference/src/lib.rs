@@ -1,10 +1,11 @@
-//! The independent second program, written from FIPS 180-4, RFC 9162 and the
-//! scope paper alone. It shares no code with the program that it tests.
+//! The independent second program, written from FIPS 180-4, RFC 9162, RFC 6962
+//! and the scope paper alone. It shares no code with the program that it tests.
 
 pub mod auditor;
 pub mod carry;
 pub mod counts;
 pub mod extensions;
+pub mod first;
 pub mod growing;
 pub mod item;
 pub mod pace;
@@ -14,6 +15,7 @@ pub mod random;
 pub mod requests;
 pub mod servers;
 pub mod sha256;
+pub mod structures;
 pub mod talk;
 pub mod tree;
 pub mod vectors;
@@ -27,6 +29,7 @@ pub mod layers {
     //! random requests.
     pub mod auditor;
     pub mod carry;
+    pub mod first;
     pub mod growing;
     pub mod hash;
     pub mod item;

@@ -7,16 +7,17 @@
 //!   talk PROGRAM           talk to a program that answers requests: line by line, with lines too long and cut off
 //!   counts PROGRAM SEED    compare the counts of nodes that a program answers, 15 million of them
 //!   extensions PROGRAM     compare what a program says of extensions in every order, 3 million items
+//!   first PROGRAM          compare what a program says of every structure of the first edition, 550,000 requests
 
 use reference::requests::{self, Requests, LAYERS};
-use reference::{counts, extensions, pace, talk};
+use reference::{counts, extensions, pace, structures, talk};
 use std::io::{self, BufRead, BufWriter, Write};
 use std::path::Path;
 use std::process::ExitCode;
 
 const USAGE: &str =
     "usage: reference cases DIR | run LAYER SEED COUNT | full LAYER | answer | pace | talk PROGRAM | counts PROGRAM SEED | \
-    extensions PROGRAM";
+    extensions PROGRAM | first PROGRAM";
 
 fn main() -> ExitCode {
     let arguments: Vec<String> = std::env::args().skip(1).collect();
@@ -53,6 +54,7 @@ fn run(arguments: &[&str]) -> Option<io::Result<()>> {
         ["talk", program] => Some(talk::talk(program)),
         ["counts", program, seed] => Some(counts::counts(program, seed.parse().ok()?, &mut out)),
         ["extensions", program] => Some(extensions::extensions(program, &mut out)),
+        ["first", program] => Some(structures::structures(program, &mut out)),
         _ => None,
     }
 }

@@ -35,6 +35,7 @@ pub static LAYERS: &[&Layer] = &[
     &layers::growing::LAYER,
     &layers::carry::LAYER,
     &layers::item::LAYER,
+    &layers::first::LAYER,
     &layers::auditor::LAYER,
 ];
 

@@ -61,6 +61,7 @@ extern "C" {
     ) -> u32;
     pub fn mta_root(leaves: *const u8, leaves_len: usize, out: *mut u8, out_len: usize) -> u32;
     pub fn mta_item(item: *const u8, item_len: usize, place: *mut u64) -> u32;
+    pub fn mta_first(edition: u16, which: u16, bytes: *const u8, bytes_len: usize, place: *mut u64) -> u32;
     pub fn mta_consistency_item(
         log: *const u8,
         log_len: usize,

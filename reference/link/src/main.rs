@@ -5,6 +5,7 @@
 
 mod carry;
 mod compare;
+mod first;
 mod hash;
 mod item;
 mod tree;
@@ -18,14 +19,14 @@ fn main() -> ExitCode {
     let count: u64 = arguments.next().unwrap_or(200_000);
     let random = &mut Random::new(arguments.next().unwrap_or(1));
     let tally = &mut Tally::default();
-    for edges in [hash::edges, tree::edges, carry::edges, item::edges] {
+    for edges in [hash::edges, tree::edges, carry::edges, item::edges, first::edges] {
         edges(tally, random);
     }
     for _ in 0..count {
         tree::some_verdict(tally, random);
     }
     for _ in 0..count / 5 {
-        for some in [hash::some, tree::some, item::some] {
+        for some in [hash::some, tree::some, item::some, first::some] {
             some(tally, random);
         }
     }
