@@ -27,6 +27,10 @@ pub filled-by-length : (fs : List Field) (ns : List ℕ) (vs : List (List ℕ)) 
 filled-by-length [] ns vs = refl
 filled-by-length (f ∷ fs) ns vs = ap suc (filled-by-length fs (drop 1 ns) (drop 1 vs))
 
+pub filled-by-layout : (fs : List Field) (ns : List ℕ) (vs : List (List ℕ)) → layout (filledBy fs ns vs) ≡ fs
+filled-by-layout [] ns vs = refl
+filled-by-layout (f ∷ fs) ns vs = ap (λ (l : List Field). f ∷ l) (filled-by-layout fs (drop 1 ns) (drop 1 vs))
+
 -- a field with the number and the bytes of its place
 abbrev pub filledAt : Field → ℕ → List ℕ → Filled
 filledAt f n v = record { field = f; value = held f n v }

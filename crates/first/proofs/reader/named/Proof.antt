@@ -1,56 +1,38 @@
+use mathlib.Core.Path.{_≡_, ap, sym, _∙_}
+use mathlib.Core.List.{List}
+use native.Mathlib.Omega.{arith}
+use lib.ListN.{length, take}
+use lib.Seq.{take-take}
 use borrow.Author.Needs.{needs}
+use Rattle.fields.specs.declared.layout.Part.{Part}
+use Rattle.fields.proofs.Resuming.{firsts, take-firsts}
+use Rattle.first.specs.declared.table.Line.{Line}
+use Rattle.first.specs.Table.{layoutOf}
+use Rattle.first.specs.First.{structure}
+use Rattle.first.proofs.Lines.{count-small}
 use Rattle.first.proofs.reader.named.Statement.{statement}
 use Rattle.first.proofs.reader.named.Tie as tie
-use Rattle.first.proofs.reader.named.Reads as reads
-use Rattle.first.proofs.reader.named.Lts as lts
-use Rattle.first.proofs.reader.in_order.Reads as in-order-reads
 
--- src/reader.rt:105:9
-array-copy-out-in-order : tie.Need-array-copy-out-in-order
-array-copy-out-in-order c = search needs
+-- the first parts of an array, by their places
+firsts-of : (l : Line) (parts : List Part) → length parts ≡ 8 → take (length (layoutOf l)) (firsts 7 parts) ≡ take (length (layoutOf l)) parts
+firsts-of l parts h = ap (take (length (layoutOf l))) (sym (take-firsts 7 parts (omega arith))) ∙ take-take (length (layoutOf l)) 7 parts (count-small l)
 
--- src/reader.rt:106:9
-array-copy-out-in-order-2 : tie.Need-array-copy-out-in-order-2
-array-copy-out-in-order-2 c = search needs
-
--- src/reader.rt:107:9
-array-copy-out-in-order-3 : tie.Need-array-copy-out-in-order-3
-array-copy-out-in-order-3 c = search needs
-
--- src/reader.rt:108:9
-array-copy-out-in-order-4 : tie.Need-array-copy-out-in-order-4
-array-copy-out-in-order-4 c = search needs
-
--- src/reader.rt:109:9
-array-copy-out-in-order-5 : tie.Need-array-copy-out-in-order-5
-array-copy-out-in-order-5 c = search needs
-
--- src/reader.rt:110:9
-array-copy-out-in-order-6 : tie.Need-array-copy-out-in-order-6
-array-copy-out-in-order-6 c = search needs
-
--- src/reader.rt:111:9
-array-copy-out-in-order-7 : tie.Need-array-copy-out-in-order-7
-array-copy-out-in-order-7 c = search needs
-
--- src/reader.rt:103:5
-in-order-requires : tie.Need-in-order-requires
-in-order-requires c κs = search needs
-
--- src/reader.rt:99:1
 returns : tie.Need-returns
-returns c = ?
+returns c =
+    let s = c .before .before .before .before .before .before .before .before in
+    let a = s .args in
+    c .in-order .ensures ∙ ap (structure (a .line)) (firsts-of (a .line) (a .t2) (s .pre))
 
 pub named-spec : {M : Type 1} → statement M
 named-spec =
     tie.close
     (tie.spec
-    array-copy-out-in-order
-    array-copy-out-in-order-2
-    array-copy-out-in-order-3
-    array-copy-out-in-order-4
-    array-copy-out-in-order-5
-    array-copy-out-in-order-6
-    array-copy-out-in-order-7
-    in-order-requires
+    (λ c. search needs)
+    (λ c. search needs)
+    (λ c. search needs)
+    (λ c. search needs)
+    (λ c. search needs)
+    (λ c. search needs)
+    (λ c. search needs)
+    (λ c κs. search needs)
     returns)
