@@ -17,6 +17,7 @@ pub mod Resuming
 pub mod Telling
 pub mod Filling
 pub mod Reaching
+pub mod Laid
 pub mod Putting
 pub mod Stripping
 pub mod Hashing

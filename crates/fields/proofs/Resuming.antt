@@ -5,7 +5,7 @@ use Prim.Native.Nat.{ℕ, zero, suc, _+_, _≤_, _<_}
 use native.Mathlib.Omega.{arith}
 use native.Mathlib.Numerals.{add-one}
 use lib.ListN.{length, getD, take, drop, set, length-set, take-append-drop}
-use lib.Seq.{drop-cons, take-suc-set, drop-set-lt, drop-length, length-take-le, drop-drop}
+use lib.Seq.{take-all, drop-cons, take-suc-set, drop-set-lt, drop-length, length-take-le, drop-drop}
 use borrow.Author.Tests.{lt-ltb, le-ltb}
 use Rattle.fields.specs.declared.layout.Part.{Part}
 use Rattle.fields.specs.declared.layout.Field.{Field}
@@ -31,6 +31,10 @@ take-from (suc n) i l h = rw (drop-cons l i noPart (omega arith)) (ap (λ (k : L
 
 pub take-firsts : (n : ℕ) (l : List Part) → n ≤ length l → take n l ≡ firsts n l
 take-firsts n l h = take-from n 0 l (omega arith)
+
+-- as many parts as there are, by their places
+pub all-firsts : (n : ℕ) (ps : List Part) → length ps ≡ n → firsts n ps ≡ ps
+all-firsts n ps l = sym (take-firsts n ps (omega arith)) ∙ take-all n ps (omega arith)
 
 -- what is read, after parts that were read before
 abbrev pub resume : List Part → Checked (List Part) → Checked (List Part)

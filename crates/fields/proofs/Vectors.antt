@@ -81,7 +81,6 @@ fill-again (Uint w) s at p bs e = let h = number-again (widthOf w) s at p bs e i
 fill-again (Vector w least most i) s at p bs e =
     let h = found-vector (widthOf w) least most i (drop at s) at p e in
     (vector-again (widthOf w) least most i s at p bs e, rw (h .is) (omega arith))
-
 fill-again (OneOf w least most) s at p bs e =
     let h = found-one-of (widthOf w) least most (drop at s) at p e in
     let k = number-again (widthOf w) s at p bs (h .0) in
@@ -215,7 +214,7 @@ kept (Fixed n) (bytes v) front b rest typed e =
 allowed-is : (least most n : ℕ) → least ≤ n → n ≤ most → allowed least most n ≡ true
 allowed-is least most n low high = rw (le-leb least n low, le-leb n most high)
 
-allowed-not : (least most n : ℕ) → (least ≤ n → n ≤ most → ⊥) → allowed least most n ≡ false
+pub allowed-not : (least most n : ℕ) → (least ≤ n → n ≤ most → ⊥) → allowed least most n ≡ false
 allowed-not least most n h = go (leb least n) (leb n most) refl refl
   where
     go : (a b : Bool) → leb least n ≡ a → leb n most ≡ b → (a && b) ≡ false
@@ -225,15 +224,17 @@ allowed-not least most n h = go (leb least n) (leb n most) refl refl
 
 pub one-of-judged : OneOfJudged
 unfolding oneOfFilled
-one-of-judged w least most n rest at fit =
-    ((λ low high. let a = allowed-is least most n low high in (one-of-there (widthOf w) least most n rest at fit ∙ rw a, rw a)),
-    λ h. let a = allowed-not least most n h in (one-of-there (widthOf w) least most n rest at fit ∙ rw a, rw a))
+one-of-judged w least most n rest at fit = (
+  (λ low high. let a = allowed-is least most n low high in (one-of-there (widthOf w) least most n rest at fit ∙ rw a, rw a)),
+  λ h. let a = allowed-not least most n h in (one-of-there (widthOf w) least most n rest at fit ∙ rw a, rw a),
+)
 
 pub fixed-as-is : FixedAsIs
 unfolding fixedFilled
-fixed-as-is n b rest at =
-    ((λ e. (subst (λ (k : ℕ). fixedAt k (b ++ rest) at ≡ Found (record { start = at; len = k; value = k })) e (fixed-there b rest at), rw (eq-eqb _ _ e))),
-    λ h. rw (ne-eqb _ _ h))
+fixed-as-is n b rest at = (
+  (λ e. (subst (λ (k : ℕ). fixedAt k (b ++ rest) at ≡ Found (record { start = at; len = k; value = k })) e (fixed-there b rest at), rw (eq-eqb _ _ e))),
+  λ h. rw (ne-eqb _ _ h),
+)
 
 pub cut-first : CutFirst
 unfolding oneOfAt numberAt fixedAt

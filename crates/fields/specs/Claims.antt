@@ -57,10 +57,10 @@ abbrev pub OneOfJudged : Type 0
 OneOfJudged =
     (w : Width) (least most n : ℕ) (rest : List ℕ) (at : ℕ) → n < 256 ^ widthOf w
     → (least ≤ n → n ≤ most
-      → (field (OneOf w least most) (be (widthOf w) n ++ rest) at ≡ Found (record { start = at; len = widthOf w; value = n }))
-      × (fill (OneOf w least most) (uint n) at ≡ good (be (widthOf w) n)))
+    → (field (OneOf w least most) (be (widthOf w) n ++ rest) at ≡ Found (record { start = at; len = widthOf w; value = n }))
+    × (fill (OneOf w least most) (uint n) at ≡ good (be (widthOf w) n)))
     × ((least ≤ n → n ≤ most → ⊥)
-      → (field (OneOf w least most) (be (widthOf w) n ++ rest) at ≡ Bad 4 at) × (fill (OneOf w least most) (uint n) at ≡ bad 4 at))
+    → (field (OneOf w least most) (be (widthOf w) n ++ rest) at ≡ Bad 4 at) × (fill (OneOf w least most) (uint n) at ≡ bad 4 at))
 
 -- bytes of a fixed length stand as they are, whatever comes behind them; others are 5 where they would start
 abbrev pub FixedAsIs : Type 0

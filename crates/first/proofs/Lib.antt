@@ -1,1 +1,6 @@
 pub mod Lines
+pub mod Wholes
+pub mod Trips
+pub mod Encoding
+pub mod Refusals
+pub mod Every

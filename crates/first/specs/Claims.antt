@@ -101,15 +101,15 @@ NameNext =
     → ((s : List ℕ) → length s ≤ mostItem → readFirst e w s ≡ bad 4 0)
     × ((n : Numbers) (t : Vectors) (out : List ℕ) → writeFirst e w n t out .answer ≡ bad 4 0)
 
--- a version, leaf type, signature type or entry type that is not allowed is 4 where it starts, whatever comes behind it; for the writer it is the entry type
+-- a version, leaf type, signature type or entry type that is not allowed is 4 where it starts, whatever comes behind it; the writer is given an entry type
 abbrev pub FourThere : Type 0
 FourThere =
-    (w b : ℕ) (r : List ℕ) → Named 1 w
-    → (length (b ∷ r) ≤ mostItem → b ≢ 0 → readFirst 1 w (b ∷ r) ≡ bad 4 0)
-    × (length (0 ∷ b ∷ r) ≤ mostItem → b ≢ 0 → readFirst 1 1 (0 ∷ b ∷ r) ≡ bad 4 1)
-    × (length (0 ∷ b ∷ r) ≤ mostItem → b ≢ 1 → readFirst 1 3 (0 ∷ b ∷ r) ≡ bad 4 1)
-    × ((time k : ℕ) → length (0 ∷ 0 ∷ be 8 time ++ (be 2 k ++ r)) ≤ mostItem → time < 2 ^ 64 → 1 < k → k < 2 ^ 16
-      → readFirst 1 1 (0 ∷ 0 ∷ be 8 time ++ (be 2 k ++ r)) ≡ bad 4 10)
+    (w b : ℕ) (r : List ℕ) → Named 1 w → b < 256
+    → (length (be 1 b ++ r) ≤ mostItem → b ≢ 0 → readFirst 1 w (be 1 b ++ r) ≡ bad 4 0)
+    × (length (be 1 0 ++ (be 1 b ++ r)) ≤ mostItem → b ≢ 0 → readFirst 1 1 (be 1 0 ++ (be 1 b ++ r)) ≡ bad 4 1)
+    × (length (be 1 0 ++ (be 1 b ++ r)) ≤ mostItem → b ≢ 1 → readFirst 1 3 (be 1 0 ++ (be 1 b ++ r)) ≡ bad 4 1)
+    × ((time k : ℕ) → length (be 1 0 ++ (be 1 0 ++ (be 8 time ++ (be 2 k ++ r)))) ≤ mostItem → time < 2 ^ 64 → 1 < k → k < 2 ^ 16
+    → readFirst 1 1 (be 1 0 ++ (be 1 0 ++ (be 8 time ++ (be 2 k ++ r)))) ≡ bad 4 10)
     × ((n : Numbers) (t : Vectors) (out : List ℕ) → 1 < n .«entry_type» → writeFirst 1 1 n t out .answer ≡ bad 4 10)
 
 -- extensions are opaque here: no order is asked

@@ -52,7 +52,10 @@ pub enum First {
         size: Part,
         root_hash: Part,
     },
-    Refused { number: u32, place: usize },
+    Refused {
+        number: u32,
+        place: usize,
+    },
 }
 
 // The first parts, as many as a line has fields, by their names.

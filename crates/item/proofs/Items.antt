@@ -32,7 +32,7 @@ use Rattle.fields.proofs.Vectors.{bytes-take}
 use Rattle.fields.specs.Claims.{Typed, AllTyped, no-fields, one-field, layout}
 use Rattle.fields.proofs.Rounds.{write-again, read-back}
 use Rattle.fields.specs.Answers.{noPart}
-use Rattle.fields.proofs.Resuming.{firsts, take-firsts}
+use Rattle.fields.proofs.Resuming.{firsts, all-firsts}
 use Rattle.item.proofs.Rows.{layout-length}
 use Rattle.fields.proofs.Within.{parts-within, place-within, read-count}
 
@@ -229,10 +229,6 @@ module _ (s : List ℕ) (k : ℕ) (ps : List Part) where
   gives Consistency = record { numbers = numbers 0 0 (n 1) (n 2) 0 0 0; vectors = vectors (v 0) [] [] [] [] [] (path 3) []; given = (refl, refl) }
   gives Inclusion = record { numbers = numbers 0 (n 1) 0 0 (n 2) 0 0; vectors = vectors (v 0) [] [] [] [] [] (path 3) []; given = (refl, refl) }
   gives Page = record { numbers = numbers (n 0) 0 0 0 0 (n 1) (n 2); vectors = vectors [] [] [] [] [] [] [] (v 3); given = (refl, refl) }
-
--- as many parts as there are, by their places
-pub all-firsts : (n : ℕ) (ps : List Part) → length ps ≡ n → firsts n ps ≡ ps
-all-firsts n ps l = sym (take-firsts n ps (omega arith)) ∙ take-all n ps (omega arith)
 
 -- whatever is read can be written again
 pub read-gives : ReadGives

@@ -32,7 +32,8 @@ use Rattle.item.specs.declared.table.Case.the-variants.{Entry, Receipt, 
 use Rattle.item.specs.Table.{TypeRow, namesOf, layoutOf, types, find}
 use Rattle.item.specs.Item.{Reading, item, readBy, readItem, filled, writeItem}
 use Rattle.item.proofs.Rows.{layout-length}
-use Rattle.item.proofs.Items.{all-firsts, all-typed, layout-filled}
+use Rattle.item.proofs.Items.{all-typed, layout-filled}
+use Rattle.fields.proofs.Resuming.{all-firsts}
 use Rattle.item.specs.Claims.{olderItem, StillRead, RefusedByOrder, FifteenInList, extensionsIn, ReadByOrder, OrderFirst, RefusedAsRead}
 
 find-number : (rs : List TypeRow) (k x at : ℕ) → find rs k ≡ bad x at → x ≡ 4

@@ -1,0 +1,113 @@
+-- A version, leaf type, signature type or entry type that is not allowed. Assumes nothing.
+use mathlib.Core.Path.{_≡_, refl, ap, _∙_}
+use mathlib.Core.List.{List, [], _∷_, _++_}
+use Prim.Native.Nat.{ℕ, _+_, _^_, _≤_, _<_}
+use native.Mathlib.Omega.{arith}
+use lib.ListN.{length, drop}
+use borrow.Author.Tests.{le-ltb}
+use Rattle.octets.specs.Limits.{mostItem}
+use Rattle.octets.specs.Numbers.{be}
+use Rattle.octets.specs.declared.number.Width.the-variants.{One, Two}
+use Rattle.octets.proofs.Numbers.{be-length}
+use Rattle.fields.specs.declared.layout.Field.{Field}
+use Rattle.fields.specs.declared.layout.Field.the-variants.{OneOf}
+use Rattle.fields.specs.declared.layout.Part.{Part}
+use Rattle.fields.specs.declared.layout.FieldRead.the-variants.{Found, Bad}
+use Rattle.fields.specs.Checked.{Checked, bad, then}
+use Rattle.fields.specs.Layout.{field, read}
+use Rattle.fields.specs.Write.{oneOfFilled, write}
+use Rattle.fields.specs.Effect.{effect}
+use Rattle.fields.proofs.Laid.{read-stops, read-goes, write-stops, write-goes}
+use Rattle.fields.proofs.Vectors.{number-there, allowed-not, one-of-judged}
+use Rattle.first.specs.declared.table.Line.{Line}
+use Rattle.first.specs.declared.table.Line.the-variants.{X509Entry, PrecertEntry, CertificateTimestamp, TreeHead}
+use Rattle.first.specs.declared.writer.Numbers.{Numbers}
+use Rattle.first.specs.Table.{version, leafType, entryType, signatureType, timestamp, layoutOf, lineOf}
+use Rattle.first.specs.First.{structure, entryAt, readFirst, Vectors, filled, writeFirst}
+use Rattle.first.specs.Claims.{Named, FourThere}
+use Rattle.first.proofs.Wholes.{LineIs, x509, precert, timestamp as isTimestamp, head as isHead, lines}
+use Rattle.first.proofs.Encoding.{zero-takes}
+
+-- whatever line a name has, its fields refuse
+refuses : (w : ℕ) (s : List ℕ) (y : ℕ) → length s ≤ mostItem → Named 1 w → ((l : Line) → LineIs 1 w (entryAt s) l → read (layoutOf l) s 0 ≡ bad 4 y) → readFirst 1 w s ≡ bad 4 y
+unfolding readFirst
+refuses w s y fit n h =
+    rw (le-ltb _ _ fit)
+    (lines 1 w (entryAt s) (λ a. then a (λ l. then (read (layoutOf l) s 0) (structure l)) ≡ bad 4 y)
+    (λ l i. ap (λ (x : Checked (List Part)). then x (structure l)) (h l i)) (λ u. absurd (u n)))
+
+-- a byte that is not the one that is allowed, and one that is
+other-byte : (x b : ℕ) (r : List ℕ) (at : ℕ) → b < 256 → (b ≡ x → ⊥) → field (OneOf One x x) (be 1 b ++ r) at ≡ Bad 4 at
+other-byte x b r at fit h = one-of-judged One x x b r at fit .1 (λ low high. h (omega arith)) .0
+
+zero-byte : (r : List ℕ) (at : ℕ) → field (OneOf One 0 0) (be 1 0 ++ r) at ≡ Found (record { start = at; len = 1; value = 0 })
+zero-byte r at = one-of-judged One 0 0 0 r at (omega arith) .0 (omega arith) (omega arith) .0
+
+version-stops : (l : Line) (b : ℕ) (r : List ℕ) → b < 256 → (b ≡ 0 → ⊥) → read (layoutOf l) (be 1 b ++ r) 0 ≡ bad 4 0
+version-stops X509Entry b r fit h = read-stops version _ (be 1 b ++ r) 0 4 0 (other-byte 0 b r 0 fit h)
+version-stops PrecertEntry b r fit h = read-stops version _ (be 1 b ++ r) 0 4 0 (other-byte 0 b r 0 fit h)
+version-stops CertificateTimestamp b r fit h = read-stops version _ (be 1 b ++ r) 0 4 0 (other-byte 0 b r 0 fit h)
+version-stops TreeHead b r fit h = read-stops version _ (be 1 b ++ r) 0 4 0 (other-byte 0 b r 0 fit h)
+
+-- behind a version that is fine
+type-stops : (fs : List Field) (x b : ℕ) (r : List ℕ) → b < 256 → (b ≡ x → ⊥) → read (version ∷ OneOf One x x ∷ fs) (be 1 0 ++ (be 1 b ++ r)) 0 ≡ bad 4 1
+unfolding be
+type-stops fs x b r fit h = read-goes version _ (be 1 0 ++ (be 1 b ++ r)) 0 4 1 _ (zero-byte (be 1 b ++ r) 0) (read-stops (OneOf One x x) fs (be 1 0 ++ (be 1 b ++ r)) 1 4 1 (other-byte x b r 1 fit h))
+
+-- behind version, leaf type and timestamp
+entry-stops : (fs : List Field) (time k : ℕ) (r : List ℕ) → time < 2 ^ 64 → 1 < k → k < 2 ^ 16 → read (version ∷ leafType ∷ timestamp ∷ entryType ∷ fs) (be 1 0 ++ (be 1 0 ++ (be 8 time ++ (be 2 k ++ r)))) 0 ≡ bad 4 10
+unfolding be
+entry-stops fs time k r ht low fit =
+    let s = be 1 0 ++ (be 1 0 ++ (be 8 time ++ (be 2 k ++ r))) in
+    let e : field entryType (be 2 k ++ r) 10 ≡ Bad 4 10 = one-of-judged Two 0 1 k r 10 fit .1 (λ u v. omega arith) .0 in
+    read-goes version _ s 0 4 10 _ (zero-byte (be 1 0 ++ (be 8 time ++ (be 2 k ++ r))) 0)
+    (read-goes leafType _ s 1 4 10 _ (zero-byte (be 8 time ++ (be 2 k ++ r)) 1)
+    (read-goes timestamp _ s 2 4 10 _ (number-there 8 time (be 2 k ++ r) 2 ht)
+    (read-stops entryType fs s 10 4 10 e)))
+
+module _ (n : Numbers) (t : Vectors) (out : List ℕ) (low : 1 < n .«entry_type») where
+  entry-refused : write (filled n t X509Entry) 0 ≡ bad 4 10
+  unfolding be oneOfFilled
+  entry-refused =
+      write-goes _ _ 0 4 10 (be 1 0) (zero-takes 0)
+      (write-goes _ _ 1 4 10 (be 1 0) (zero-takes 1)
+      (write-goes _ _ 2 4 10 (be 8 (n .timestamp)) refl
+      (write-stops _ _ 10 4 10 (rw (allowed-not 0 1 (n .«entry_type») (λ u v. omega arith))))))
+
+  writer-refuses : writeFirst 1 1 n t out .answer ≡ bad 4 10
+  unfolding writeFirst
+  writer-refuses =
+      lines 1 1 (n .«entry_type») (λ a. effect out (then a (λ l. write (filled n t l) 0)) .answer ≡ bad 4 10) found (λ u. absurd (u (refl, omega arith, omega arith)))
+    where
+      found : (l : Line) → LineIs 1 1 (n .«entry_type») l → effect out (write (filled n t l) 0) .answer ≡ bad 4 10
+      found X509Entry i = rw entry-refused
+      found PrecertEntry (precert x y k) = absurd (omega arith)
+      found CertificateTimestamp (isTimestamp x y) = absurd (omega arith)
+      found TreeHead (isHead x y) = absurd (omega arith)
+
+pub four-there : FourThere
+four-there w b r n fit = (
+  (λ l h. refuses w (be 1 b ++ r) 0 l n (λ m i. version-stops m b r fit h)),
+  (λ l h. refuses 1 (be 1 0 ++ (be 1 b ++ r)) 1 l (refl, omega arith, omega arith) (leaf h)),
+  (λ l h. refuses 3 (be 1 0 ++ (be 1 b ++ r)) 1 l (refl, omega arith, omega arith) (head h)),
+  (λ time k l ht low high. refuses 1 (be 1 0 ++ (be 1 0 ++ (be 8 time ++ (be 2 k ++ r)))) 10 l (refl, omega arith, omega arith) (entry time k ht low high)),
+  writer-refuses,
+)
+  where
+    leaf : (b ≡ 0 → ⊥) → (l : Line) → LineIs 1 1 (entryAt (be 1 0 ++ (be 1 b ++ r))) l → read (layoutOf l) (be 1 0 ++ (be 1 b ++ r)) 0 ≡ bad 4 1
+    leaf h X509Entry i = type-stops _ 0 b r fit h
+    leaf h PrecertEntry i = type-stops _ 0 b r fit h
+    leaf h CertificateTimestamp (isTimestamp x y) = absurd (omega arith)
+    leaf h TreeHead (isHead x y) = absurd (omega arith)
+
+    head : (b ≡ 1 → ⊥) → (l : Line) → LineIs 1 3 (entryAt (be 1 0 ++ (be 1 b ++ r))) l → read (layoutOf l) (be 1 0 ++ (be 1 b ++ r)) 0 ≡ bad 4 1
+    head h X509Entry (x509 x y z) = absurd (omega arith)
+    head h PrecertEntry (precert x y z) = absurd (omega arith)
+    head h CertificateTimestamp (isTimestamp x y) = absurd (omega arith)
+    head h TreeHead i = type-stops _ 1 b r fit h
+
+    entry : (time k : ℕ) → time < 2 ^ 64 → 1 < k → k < 2 ^ 16 → (l : Line) → LineIs 1 1 (entryAt (be 1 0 ++ (be 1 0 ++ (be 8 time ++ (be 2 k ++ r))))) l → read (layoutOf l) (be 1 0 ++ (be 1 0 ++ (be 8 time ++ (be 2 k ++ r)))) 0 ≡ bad 4 10
+    entry time k ht low high X509Entry i = entry-stops _ time k r ht low high
+    entry time k ht low high PrecertEntry i = entry-stops _ time k r ht low high
+    entry time k ht low high CertificateTimestamp (isTimestamp x y) = absurd (omega arith)
+    entry time k ht low high TreeHead (isHead x y) = absurd (omega arith)
