@@ -12,12 +12,12 @@ use fields::writing::Written;
 use item::Item;
 
 // How a field is answered: by where its bytes start and how many they are, or by the number that it is.
-const VECTOR: bool = true;
+pub(crate) const VECTOR: bool = true;
 
-const NUMBER: bool = false;
+pub(crate) const NUMBER: bool = false;
 
 // An answer of two numbers, to which more may come.
-fn numbered(a: u64, b: u64) -> Answer {
+pub(crate) fn numbered(a: u64, b: u64) -> Answer {
     Answer {
         count: 2,
         number: [a, b, 0, 0, 0, 0, 0, 0, 0, 0, 0, 0],
@@ -26,7 +26,7 @@ fn numbered(a: u64, b: u64) -> Answer {
     }
 }
 
-fn part(a: Answer, vector: bool, p: Part) -> Answer {
+pub(crate) fn part(a: Answer, vector: bool, p: Part) -> Answer {
     if vector {
         return then(then(a, p.start as u64), p.len as u64);
     }
@@ -180,7 +180,7 @@ fn numbers(n: Numbers) -> item::Numbers {
     }
 }
 
-fn written(w: Written) -> Answer {
+pub(crate) fn written(w: Written) -> Answer {
     match w {
         Written::Length(count) => words(0, 0, count as u64),
         Written::Refused { number, place } => words(number as u64, place as u64, 0),

@@ -2,7 +2,7 @@
 // proved safe, and what it writes is compared with what an independent program says.
 //
 // input: the lines of standard input    cut: parts of a text    table: the entries    value: one argument    request: the arguments of a line
-// answers: the words of an answer       hashing, trees, growth, carrying, items, auditing: what the entries of a crate call
+// answers: the words of an answer       hashing, trees, growth, carrying, items, structures, auditing: what the entries of a crate call
 mod answers;
 mod auditing;
 mod carrying;
@@ -12,6 +12,7 @@ mod hashing;
 mod input;
 mod items;
 mod request;
+mod structures;
 mod table;
 mod trees;
 mod value;

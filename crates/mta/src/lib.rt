@@ -1,5 +1,5 @@
-// What a program in C calls (include/mta.h), on numbers and byte slices: both verdicts, carrying and comparing, the root of leaf hashes, the reader of items
-// and the writer of a consistency item, the hashes and the block step. 0 means accepted or done, any other answer is a refusal's number.
+// What a program in C calls (include/mta.h), on numbers and byte slices: both verdicts, carrying and comparing, the root of leaf hashes, the readers of items
+// and of the first edition, the writer of a consistency item, the hashes and the block step. 0 means accepted or done, any other answer is a refusal's number.
 ghost use mathlib.Core.Path.{_≡_};
 ghost use lib.ListN.{length};
 ghost use Rattle.hash.specs.Digest.{sha256, leafHash};
@@ -10,6 +10,7 @@ ghost use Rattle.octets.specs.Answer.{number};
 ghost use Rattle.tree.specs.Build.{building, buildReport, output, rootBuilt};
 ghost use Rattle.fields.specs.Effect.{writing};
 ghost use Rattle.item.specs.Item.{reading, readItem};
+ghost use Rattle.first.specs.First.{reading as readingFirst, readFirst};
 ghost use Rattle.carry.specs.Forward.{carry, pathCarried, pairCarried, carryReport};
 ghost use Rattle.carry.specs.Compare.{compare, compareReport, pairCompared};
 ghost use Rattle.mta.specs.Entries.{writtenAfter, collidedAfter, differedAfter, numberOf, placeOf, lengthAfter, sizesOf, consistencyWritten};
@@ -18,6 +19,7 @@ ghost use Rattle.mta.specs.Slices.{nodeNumber, nodeBytes, wordsOf, words
 use carry::compare::Compared;
 use carry::forward::Carried;
 use fields::writing::Written;
+use first::First;
 use hash::Digest;
 use item::Item;
 use item::Numbers;
@@ -212,6 +214,47 @@ fn refused(i: Item) -> Refusal
     }
 }
 
+// The same of a structure of the first edition.
+fn first_refused(f: First) -> Refusal
+    ensures { λ r. ⌜ (r .number ≡ numberOf (readingFirst f)) × (r .place ≡ placeOf (readingFirst f)) ⌝ }
+{
+    match f {
+        First::X509Entry {
+            version: _,
+            leaf_type: _,
+            timestamp: _,
+            entry_type: _,
+            certificate: _,
+            extensions: _,
+        } => not_refused(),
+        First::PrecertEntry {
+            version: _,
+            leaf_type: _,
+            timestamp: _,
+            entry_type: _,
+            issuer_key_hash: _,
+            tbs_certificate: _,
+            extensions: _,
+        } => not_refused(),
+        First::CertificateTimestamp {
+            version: _,
+            log_id: _,
+            timestamp: _,
+            extensions: _,
+            algorithms: _,
+            signature: _,
+        } => not_refused(),
+        First::TreeHead {
+            version: _,
+            signature_type: _,
+            timestamp: _,
+            size: _,
+            root_hash: _,
+        } => not_refused(),
+        First::Refused { number, place } => Refusal { number, place },
+    }
+}
+
 // Reads an item: 0, or the number of the refusal, whose place is left in `place`.
 #[no_mangle]
 pub extern "C" fn mta_item(s: &[u8], place: &mut u64) -> u32
@@ -220,6 +263,18 @@ pub extern "C" fn mta_item(s: &[u8], place: &mut u64) -> u32
         (r ≡ numberOf o) × (now (place .exit) ≡ placeOf o)) ⌝ }
 {
     let r = refused(item::read(s));
+    *place = r.place as u64;
+    r.number
+}
+
+// Reads a structure of the first edition (RFC 6962), which its two numbers name: 0, or the number of the refusal, whose place is left in `place`.
+#[no_mangle]
+pub extern "C" fn mta_first(edition: u16, which: u16, s: &[u8], place: &mut u64) -> u32
+    ensures { λ r. ⌜
+        (let o = readFirst edition which (now (s .entry)) in
+        (r ≡ numberOf o) × (now (place .exit) ≡ placeOf o)) ⌝ }
+{
+    let r = first_refused(first::read(edition, which, s));
     *place = r.place as u64;
     r.number
 }
