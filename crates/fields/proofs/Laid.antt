@@ -4,10 +4,10 @@ use mathlib.Core.List.{List, [], _∷_, _++_}
 use mathlib.Core.Bool.{Bool, true, false, _&&_}
 use Prim.Native.Nat.{ℕ, _+_, _^_, _≤_, _<_}
 use native.Mathlib.Omega.{arith}
-use lib.ListN.{length, take, drop}
+use lib.ListN.{length, take, drop, length-append}
 use lib.Seq.{length-take-le}
 use lib.Dec.{leb}
-use borrow.Author.Tests.{le-ltb, leb-true}
+use borrow.Author.Tests.{lt-ltb, le-ltb, leb-true}
 use Rattle.octets.specs.Bytes.{Bytes}
 use Rattle.octets.specs.Numbers.{widthOf, unbe}
 use Rattle.octets.proofs.Numbers.{unbe-below}
@@ -20,7 +20,7 @@ use Rattle.fields.specs.declared.layout.FieldRead.the-variants.{Found, B
 use Rattle.fields.specs.Checked.{Checked, good, bad, then}
 use Rattle.fields.specs.Layout.{allowed, numberAt, oneOfAt, field, next, push, read}
 use Rattle.fields.specs.Write.{vectorBytes, vectorFilled, bodySize, wholes, wrap, fill, laid, Filled, join, write}
-use Rattle.fields.specs.Claims.{Each}
+use Rattle.fields.specs.Claims.{Each, Upto, here, past, LeftToRight}
 use Rattle.fields.specs.Extensions.{allLaid}
 use Rattle.fields.proofs.Answers.{bad-good, same-good}
 use Rattle.fields.proofs.Places.{plain-fine}
@@ -135,3 +135,33 @@ write-stops f fs at x y e = rw e
 pub write-goes : (f : Filled) (fs : List Filled) (at x y : ℕ) (b : List ℕ) → fill (f .field) (f .value) at ≡ good b → write fs (at + length b) ≡ bad x y → write (f ∷ fs) at ≡ bad x y
 unfolding write
 write-goes f fs at x y b e h = rw (e, h)
+
+-- the first bad field decides
+upto-stops : (fs gs : List Field) (f : Field) (s : List ℕ) (at end x y : ℕ) → Upto s fs at end → field f (drop end s) end ≡ Bad x y → read (fs ++ (f ∷ gs)) s at ≡ bad x y
+upto-stops [] gs f s at end x y here e = read-stops f gs s at x y e
+upto-stops (g ∷ fs) gs f s at end x y (past p h u) e = read-goes g (fs ++ (f ∷ gs)) s at x y p h (upto-stops fs gs f s (p .start + p .len) end x y u e)
+
+upto-over : (fs : List Field) (s : List ℕ) (at end : ℕ) → Upto s fs at end → end < length s → read fs s at ≡ bad 3 end
+unfolding read
+upto-over [] s at end here l = rw (lt-ltb _ _ l)
+upto-over (f ∷ fs) s at end (past p h u) l = read-goes f fs s at 3 end p h (upto-over fs s (p .start + p .len) end u l)
+
+written-stops : (fs gs : List Filled) (f : Filled) (at x y : ℕ) (b : List ℕ) → write fs at ≡ good b → fill (f .field) (f .value) (at + length b) ≡ bad x y → write (fs ++ (f ∷ gs)) at ≡ bad x y
+unfolding write
+written-stops [] gs f at x y b e h =
+    let z : at + length b ≡ at = omega (arith, ap length (same-good [] b e)) in
+    write-stops f gs at x y (rw z at h)
+written-stops (g ∷ fs) gs f at x y b e h = go (fill (g .field) (g .value) at) refl e (λ n. written-stops fs gs f n x y)
+  where
+    go : (a : Checked (List ℕ)) → fill (g .field) (g .value) at ≡ a → then a (λ c. join c (write fs (at + length c))) ≡ good b → ((n : ℕ) (d : List ℕ) → write fs n ≡ good d → fill (f .field) (f .value) (n + length d) ≡ bad x y → write (fs ++ (f ∷ gs)) n ≡ bad x y) → write (g ∷ (fs ++ (f ∷ gs))) at ≡ bad x y
+    go (bad u v) ha e less = bad-good u v b e
+    go (good c) ha e less = more (write fs (at + length c)) refl e
+      where
+        more : (a : Checked (List ℕ)) → write fs (at + length c) ≡ a → join c a ≡ good b → write (g ∷ (fs ++ (f ∷ gs))) at ≡ bad x y
+        more (bad u v) hb e = bad-good u v b e
+        more (good d) hb e =
+            let z : at + length b ≡ at + length c + length d = omega (arith, ap length (same-good (c ++ d) b e), length-append c d) in
+            write-goes g (fs ++ (f ∷ gs)) at x y c ha (less (at + length c) d hb (rw z at h))
+
+pub left-to-right : LeftToRight
+left-to-right = (upto-stops, upto-over, written-stops)

@@ -6,8 +6,10 @@ use Prim.Native.Nat.{ℕ}
 use lib.ListN.{length, drop}
 use lib.Dec.{ltb}
 use lib.Seq.{drop-at}
+use borrow.Author.Tests.{lt-ltb, le-ltb}
 use Rattle.fields.specs.Checked.{Checked, good, bad}
 use Rattle.fields.specs.Effect.{Effect, unwritten, wrote, effect}
+use Rattle.fields.specs.Claims.{RoomLast}
 use Rattle.fields.proofs.Answers.{bad-good, good-bad, same-good}
 
 -- what is put into lent bytes
@@ -36,3 +38,8 @@ refused-keeps (good b) out x at e = last (ltb (length out) (length b)) e
 
 pub past-keeps : (a : Checked (List ℕ)) (out : List ℕ) (m : ℕ) → effect out a .answer ≡ good m → drop m (effect out a .bytes) ≡ drop m out
 past-keeps a out m e = let p = was-put a out m e in ap (drop m) (p .after) ∙ drop-at (p .bytes) (drop m out) m (sym (p .size))
+
+-- the room is asked for last
+pub room-last : RoomLast
+room-last a out =
+    ((λ x y e. rw e), (λ b e l. rw (e, lt-ltb _ _ l)), λ b e l. rw (e, le-ltb _ _ l))

@@ -214,7 +214,7 @@ kept (Fixed n) (bytes v) front b rest typed e =
 allowed-is : (least most n : ℕ) → least ≤ n → n ≤ most → allowed least most n ≡ true
 allowed-is least most n low high = rw (le-leb least n low, le-leb n most high)
 
-pub allowed-not : (least most n : ℕ) → (least ≤ n → n ≤ most → ⊥) → allowed least most n ≡ false
+allowed-not : (least most n : ℕ) → (least ≤ n → n ≤ most → ⊥) → allowed least most n ≡ false
 allowed-not least most n h = go (leb least n) (leb n most) refl refl
   where
     go : (a b : Bool) → leb least n ≡ a → leb n most ≡ b → (a && b) ≡ false
@@ -224,9 +224,9 @@ allowed-not least most n h = go (leb least n) (leb n most) refl refl
 
 pub one-of-judged : OneOfJudged
 unfolding oneOfFilled
-one-of-judged w least most n rest at fit = (
-  (λ low high. let a = allowed-is least most n low high in (one-of-there (widthOf w) least most n rest at fit ∙ rw a, rw a)),
-  λ h. let a = allowed-not least most n h in (one-of-there (widthOf w) least most n rest at fit ∙ rw a, rw a),
+one-of-judged w least most n rest at = (
+  (λ low high. let a = allowed-is least most n low high in (rw a, λ fit. one-of-there (widthOf w) least most n rest at fit ∙ rw a)),
+  λ h. let a = allowed-not least most n h in (rw a, λ fit. one-of-there (widthOf w) least most n rest at fit ∙ rw a),
 )
 
 pub fixed-as-is : FixedAsIs

@@ -12,9 +12,10 @@ use Rattle.fields.specs.declared.layout.Inner.{Inner}
 use Rattle.fields.specs.declared.layout.Field.{Field}
 use Rattle.fields.specs.declared.layout.Field.the-variants.{Uint, Vector, OneOf, Fixed}
 use Rattle.fields.specs.declared.layout.FieldRead.the-variants.{Found, Bad}
-use Rattle.fields.specs.Checked.{good, bad}
+use Rattle.fields.specs.Checked.{Checked, good, bad}
 use Rattle.fields.specs.Layout.{inside, whole, field, read, partsFound, bytesAt}
 use Rattle.fields.specs.Write.{Value, uint, bytes, fill, Filled, write, opened, values}
+use Rattle.fields.specs.Effect.{wrote, effect}
 use Rattle.fields.specs.Path.{encoded, pathAt, copyPath}
 
 -- one field that was found, filled with what was found there, is the same bytes
@@ -52,15 +53,16 @@ VectorByElements =
     → field (Vector w least most i) ((be (widthOf w) (length b) ++ b) ++ rest) at
     ≡ whole (inside i b (at + widthOf w)) (record { start = at + widthOf w; len = length b; value = length b })
 
--- a number that is there is taken exactly if it is one of the few, whatever comes behind it; any other is 4 where it starts, read and written
+-- a number that must be one of few is taken exactly if it is; any other is 4 where it starts, written, and read whatever comes behind it
 abbrev pub OneOfJudged : Type 0
 OneOfJudged =
-    (w : Width) (least most n : ℕ) (rest : List ℕ) (at : ℕ) → n < 256 ^ widthOf w
+    (w : Width) (least most n : ℕ) (rest : List ℕ) (at : ℕ)
     → (least ≤ n → n ≤ most
-    → (field (OneOf w least most) (be (widthOf w) n ++ rest) at ≡ Found (record { start = at; len = widthOf w; value = n }))
-    × (fill (OneOf w least most) (uint n) at ≡ good (be (widthOf w) n)))
+    → (fill (OneOf w least most) (uint n) at ≡ good (be (widthOf w) n))
+    × (n < 256 ^ widthOf w → field (OneOf w least most) (be (widthOf w) n ++ rest) at ≡ Found (record { start = at; len = widthOf w; value = n })))
     × ((least ≤ n → n ≤ most → ⊥)
-    → (field (OneOf w least most) (be (widthOf w) n ++ rest) at ≡ Bad 4 at) × (fill (OneOf w least most) (uint n) at ≡ bad 4 at))
+    → (fill (OneOf w least most) (uint n) at ≡ bad 4 at)
+    × (n < 256 ^ widthOf w → field (OneOf w least most) (be (widthOf w) n ++ rest) at ≡ Bad 4 at))
 
 -- bytes of a fixed length stand as they are, whatever comes behind them; others are 5 where they would start
 abbrev pub FixedAsIs : Type 0
@@ -98,6 +100,27 @@ pub record ReadBack (fs : List Filled) (front b : List ℕ) : Type 0 where
 
 abbrev pub LayoutBack : Type 0
 LayoutBack = (fs : List Filled) (front b : List ℕ) → AllTyped fs → write fs (length front) ≡ good b → ReadBack fs front b
+
+-- fields that are found one after the other, from a place up to another
+pub data Upto (s : List ℕ) : List Field → ℕ → ℕ → Type 0 where
+  here : {at : ℕ} → Upto s [] at at
+  past : {f : Field} {fs : List Field} {at end : ℕ} (p : Part) → field f (drop at s) at ≡ Found p → Upto s fs (p .start + p .len) end → Upto s (f ∷ fs) at end
+
+-- over any layout: left to right, the first bad field decides, with its own number and place, and bytes behind the last field are 3 where they start
+abbrev pub LeftToRight : Type 0
+LeftToRight =
+    ((fs gs : List Field) (f : Field) (s : List ℕ) (at end x y : ℕ) → Upto s fs at end → field f (drop end s) end ≡ Bad x y → read (fs ++ (f ∷ gs)) s at ≡ bad x y)
+    × ((fs : List Field) (s : List ℕ) (at end : ℕ) → Upto s fs at end → end < length s → read fs s at ≡ bad 3 end)
+    × ((fs gs : List Filled) (f : Filled) (at x y : ℕ) (b : List ℕ) → write fs at ≡ good b → fill (f .field) (f .value) (at + length b) ≡ bad x y
+    → write (fs ++ (f ∷ gs)) at ≡ bad x y)
+
+-- the room is asked for last: what is refused is refused in any buffer, and what does not fit is 9 at 0
+abbrev pub RoomLast : Type 0
+RoomLast =
+    (a : Checked (List ℕ)) (out : List ℕ)
+    → ((x y : ℕ) → a ≡ bad x y → effect out a .answer ≡ bad x y)
+    × ((b : List ℕ) → a ≡ good b → length out < length b → effect out a .answer ≡ bad 9 0)
+    × ((b : List ℕ) → a ≡ good b → length b ≤ length out → effect out a ≡ wrote b out)
 
 abbrev pub Each : {A : Type 0} → (A → Type 0) → List A → Type 0
 Each P [] = Unit

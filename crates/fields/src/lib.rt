@@ -11,7 +11,7 @@ pub mod reading;
 pub mod writing;
 
 ghost use Rattle.fields.specs.Claims.{ReadThenFilled, FilledThenRead, VectorByElements, LayoutAgain, LayoutBack, FieldsWithin, RefusedWithin};
-ghost use Rattle.fields.specs.Claims.{OneOfJudged, FixedAsIs, CutFirst, FoundBefore, CopiedIsJoined, JoinedIsCopied, CopyKeeps};
+ghost use Rattle.fields.specs.Claims.{OneOfJudged, FixedAsIs, CutFirst, LeftToRight, RoomLast, FoundBefore, CopiedIsJoined, JoinedIsCopied, CopyKeeps};
 ghost use Rattle.fields.specs.Extensions.{FineIsExtended, OneList, FifteenIsOutOfOrder, StillRead, RefusedByOrder, FifteenInList};
 ghost use Rattle.fields.specs.Extensions.{ReadByOrder, OrderFirst, RefusedAsRead, LayoutRefusedAsRead};
 
@@ -25,6 +25,8 @@ pub fn claims()
     ensures cut_first { λ _. ⌜ CutFirst ⌝ }
     ensures layout_again { λ _. ⌜ LayoutAgain ⌝ }
     ensures layout_back { λ _. ⌜ LayoutBack ⌝ }
+    ensures left_to_right { λ _. ⌜ LeftToRight ⌝ }
+    ensures room_last { λ _. ⌜ RoomLast ⌝ }
     ensures fields_within { λ _. ⌜ FieldsWithin ⌝ }
     ensures refused_within { λ _. ⌜ RefusedWithin ⌝ }
     ensures found_before { λ _. ⌜ FoundBefore ⌝ }

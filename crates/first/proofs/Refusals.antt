@@ -15,10 +15,10 @@ use Rattle.fields.specs.declared.layout.Part.{Part}
 use Rattle.fields.specs.declared.layout.FieldRead.the-variants.{Found, Bad}
 use Rattle.fields.specs.Checked.{Checked, bad, then}
 use Rattle.fields.specs.Layout.{field, read}
-use Rattle.fields.specs.Write.{oneOfFilled, write}
+use Rattle.fields.specs.Write.{write}
 use Rattle.fields.specs.Effect.{effect}
 use Rattle.fields.proofs.Laid.{read-stops, read-goes, write-stops, write-goes}
-use Rattle.fields.proofs.Vectors.{number-there, allowed-not, one-of-judged}
+use Rattle.fields.proofs.Vectors.{number-there, one-of-judged}
 use Rattle.first.specs.declared.table.Line.{Line}
 use Rattle.first.specs.declared.table.Line.the-variants.{X509Entry, PrecertEntry, CertificateTimestamp, TreeHead}
 use Rattle.first.specs.declared.writer.Numbers.{Numbers}
@@ -38,10 +38,10 @@ refuses w s y fit n h =
 
 -- a byte that is not the one that is allowed, and one that is
 other-byte : (x b : ℕ) (r : List ℕ) (at : ℕ) → b < 256 → (b ≡ x → ⊥) → field (OneOf One x x) (be 1 b ++ r) at ≡ Bad 4 at
-other-byte x b r at fit h = one-of-judged One x x b r at fit .1 (λ low high. h (omega arith)) .0
+other-byte x b r at fit h = one-of-judged One x x b r at .1 (λ low high. h (omega arith)) .1 fit
 
 zero-byte : (r : List ℕ) (at : ℕ) → field (OneOf One 0 0) (be 1 0 ++ r) at ≡ Found (record { start = at; len = 1; value = 0 })
-zero-byte r at = one-of-judged One 0 0 0 r at (omega arith) .0 (omega arith) (omega arith) .0
+zero-byte r at = one-of-judged One 0 0 0 r at .0 (omega arith) (omega arith) .1 (omega arith)
 
 version-stops : (l : Line) (b : ℕ) (r : List ℕ) → b < 256 → (b ≡ 0 → ⊥) → read (layoutOf l) (be 1 b ++ r) 0 ≡ bad 4 0
 version-stops X509Entry b r fit h = read-stops version _ (be 1 b ++ r) 0 4 0 (other-byte 0 b r 0 fit h)
@@ -59,7 +59,7 @@ entry-stops : (fs : List Field) (time k : ℕ) (r : List ℕ) → time < 2 ^ 64 
 unfolding be
 entry-stops fs time k r ht low fit =
     let s = be 1 0 ++ (be 1 0 ++ (be 8 time ++ (be 2 k ++ r))) in
-    let e : field entryType (be 2 k ++ r) 10 ≡ Bad 4 10 = one-of-judged Two 0 1 k r 10 fit .1 (λ u v. omega arith) .0 in
+    let e : field entryType (be 2 k ++ r) 10 ≡ Bad 4 10 = one-of-judged Two 0 1 k r 10 .1 (λ u v. omega arith) .1 fit in
     read-goes version _ s 0 4 10 _ (zero-byte (be 1 0 ++ (be 8 time ++ (be 2 k ++ r))) 0)
     (read-goes leafType _ s 1 4 10 _ (zero-byte (be 8 time ++ (be 2 k ++ r)) 1)
     (read-goes timestamp _ s 2 4 10 _ (number-there 8 time (be 2 k ++ r) 2 ht)
@@ -67,12 +67,12 @@ entry-stops fs time k r ht low fit =
 
 module _ (n : Numbers) (t : Vectors) (out : List ℕ) (low : 1 < n .«entry_type») where
   entry-refused : write (filled n t X509Entry) 0 ≡ bad 4 10
-  unfolding be oneOfFilled
+  unfolding be
   entry-refused =
       write-goes _ _ 0 4 10 (be 1 0) (zero-takes 0)
       (write-goes _ _ 1 4 10 (be 1 0) (zero-takes 1)
       (write-goes _ _ 2 4 10 (be 8 (n .timestamp)) refl
-      (write-stops _ _ 10 4 10 (rw (allowed-not 0 1 (n .«entry_type») (λ u v. omega arith))))))
+      (write-stops _ _ 10 4 10 (one-of-judged Two 0 1 (n .«entry_type») [] 10 .1 (λ u v. omega arith) .0))))
 
   writer-refuses : writeFirst 1 1 n t out .answer ≡ bad 4 10
   unfolding writeFirst

@@ -12,17 +12,17 @@ use Rattle.fields.specs.declared.layout.Part.{Part}
 use Rattle.fields.specs.Checked.{Checked, good, bad, then}
 use Rattle.fields.specs.Layout.{read}
 use Rattle.fields.specs.Write.{write}
-use Rattle.fields.specs.Effect.{Effect, effect}
+use Rattle.fields.specs.Effect.{Effect, unwritten, wrote, effect}
 use Rattle.fields.specs.Extensions.{unordered}
 use Rattle.fields.proofs.Answers.{bad-good, good-bad, same-good, same-place, same-number}
 use Rattle.fields.proofs.Within.{parts-within, place-within}
 use Rattle.fields.proofs.Ordering.{refused-by-order}
-use Rattle.fields.proofs.Lent.{refused-keeps, past-keeps}
+use Rattle.fields.proofs.Lent.{was-put, refused-keeps, past-keeps, room-last as roomLast}
 use Rattle.first.specs.declared.table.Line.{Line}
 use Rattle.first.specs.declared.table.Line.the-variants.{X509Entry, PrecertEntry, CertificateTimestamp, TreeHead}
 use Rattle.first.specs.Table.{layoutOf, leafLine, lineOf}
 use Rattle.first.specs.First.{Reading, structure, entryAt, readFirst, filled, writeFirst}
-use Rattle.first.specs.Claims.{WriterKeeps, RefusedWithin, FieldsWithin, LongFirst, Named, NameNext, NoFifteen}
+use Rattle.first.specs.Claims.{WriterKeeps, RefusedWithin, FieldsWithin, LongFirst, Named, NameNext, RoomLast, NoFifteen}
 
 -- what the line of a name says of it
 pub data LineIs (e w k : ℕ) : Line → Type 0 where
@@ -166,3 +166,18 @@ pub writer-keeps : WriterKeeps
 unfolding writeFirst
 writer-keeps e w n t out =
     let a = then (lineOf e w (n .«entry_type»)) (λ l. write (filled n t l) 0) in (refused-keeps a out, past-keeps a out)
+
+pub room-last : RoomLast
+unfolding writeFirst
+room-last e w n t out other = (refused (then (lineOf e w (n .«entry_type»)) (λ l. write (filled n t l) 0)), fits (then (lineOf e w (n .«entry_type»)) (λ l. write (filled n t l) 0)))
+  where
+    refused : (a : Checked (List ℕ)) (x y : ℕ) → (x ≡ 9 → ⊥) → effect other a .answer ≡ bad x y → effect out a .answer ≡ bad x y
+    refused (bad u v) x y h q = q
+    refused (good b) x y h q = go (ltb (length other) (length b)) q
+      where
+        go : (c : Bool) → _≡_ {A = Checked ℕ} (cond {A = Effect} c (unwritten 9 0 other) (wrote b other) .answer) (bad x y) → effect out (good b) .answer ≡ bad x y
+        go true q = absurd (h (same-number 9 x 0 y q))
+        go false q = good-bad x y _ q
+
+    fits : (a : Checked (List ℕ)) (m : ℕ) → effect other a .answer ≡ good m → length out < m → effect out a .answer ≡ bad 9 0
+    fits a m q l = let p = was-put a other m q in roomLast a out .1 (p .bytes) (p .is) (omega (arith, p .size))

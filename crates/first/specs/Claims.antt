@@ -101,6 +101,13 @@ NameNext =
     → ((s : List ℕ) → length s ≤ mostItem → readFirst e w s ≡ bad 4 0)
     × ((n : Numbers) (t : Vectors) (out : List ℕ) → writeFirst e w n t out .answer ≡ bad 4 0)
 
+-- the writer asks for the room last: what it refuses otherwise it refuses whatever is lent, and what would be written elsewhere is 9 at 0 where it does not fit
+abbrev pub RoomLast : Type 0
+RoomLast =
+    (e w : ℕ) (n : Numbers) (t : Vectors) (out other : List ℕ)
+    → ((x y : ℕ) → x ≢ 9 → writeFirst e w n t other .answer ≡ bad x y → writeFirst e w n t out .answer ≡ bad x y)
+    × ((m : ℕ) → writeFirst e w n t other .answer ≡ good m → length out < m → writeFirst e w n t out .answer ≡ bad 9 0)
+
 -- a version, leaf type, signature type or entry type that is not allowed is 4 where it starts, whatever comes behind it; the writer is given an entry type
 abbrev pub FourThere : Type 0
 FourThere =

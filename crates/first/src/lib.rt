@@ -8,7 +8,7 @@ mod table;
 mod writer;
 
 ghost use Rattle.first.specs.Claims.{ReadThenWritten, WrittenThenRead, WriterKeeps, RefusedWithin, FieldsWithin};
-ghost use Rattle.first.specs.Claims.{ReadIsEncoded, WrittenIsEncoded, LongFirst, NameNext, FourThere, NoFifteen};
+ghost use Rattle.first.specs.Claims.{ReadIsEncoded, WrittenIsEncoded, LongFirst, NameNext, RoomLast, FourThere, NoFifteen};
 pub use reader::First;
 pub use reader::read;
 pub use table::MERKLE_TREE_LEAF;
@@ -29,6 +29,7 @@ pub fn claims()
     ensures written_is_encoded { λ _. ⌜ WrittenIsEncoded ⌝ }
     ensures long_first { λ _. ⌜ LongFirst ⌝ }
     ensures name_next { λ _. ⌜ NameNext ⌝ }
+    ensures room_last { λ _. ⌜ RoomLast ⌝ }
     ensures four_there { λ _. ⌜ FourThere ⌝ }
     ensures no_fifteen { λ _. ⌜ NoFifteen ⌝ }
 {}
