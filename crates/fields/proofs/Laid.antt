@@ -1,13 +1,13 @@
 -- Fields that were filled, all of them, and what they are laid out as; fields that were read, one after the other. Assumes nothing.
 use mathlib.Core.Path.{_≡_, refl, ap, ap₂, sym, _∙_}
 use mathlib.Core.List.{List, [], _∷_, _++_}
-use mathlib.Core.Bool.{Bool, true, false, _&&_}
+use mathlib.Core.Bool.{Bool, true, false, cond, _&&_}
 use Prim.Native.Nat.{ℕ, _+_, _^_, _≤_, _<_}
 use native.Mathlib.Omega.{arith}
 use lib.ListN.{length, take, drop, length-append}
 use lib.Seq.{length-take-le}
-use lib.Dec.{leb}
-use borrow.Author.Tests.{lt-ltb, le-ltb, leb-true}
+use lib.Dec.{ltb, leb}
+use borrow.Author.Tests.{lt-ltb, le-ltb, ltb-false, leb-true}
 use Rattle.octets.specs.Bytes.{Bytes}
 use Rattle.octets.specs.Numbers.{widthOf, unbe}
 use Rattle.octets.proofs.Numbers.{unbe-below}
@@ -18,8 +18,8 @@ use Rattle.fields.specs.declared.layout.Field.the-variants.{Uint, Vector
 use Rattle.fields.specs.declared.layout.FieldRead.{FieldRead}
 use Rattle.fields.specs.declared.layout.FieldRead.the-variants.{Found, Bad}
 use Rattle.fields.specs.Checked.{Checked, good, bad, then}
-use Rattle.fields.specs.Layout.{allowed, numberAt, oneOfAt, field, next, push, read}
-use Rattle.fields.specs.Write.{vectorBytes, vectorFilled, bodySize, wholes, wrap, fill, laid, Filled, join, write}
+use Rattle.fields.specs.Layout.{inside, allowed, numberAt, oneOfAt, field, next, push, read}
+use Rattle.fields.specs.Write.{vectorBytes, vectorFilled, bodySize, wholes, wrap, fine, fill, laid, Filled, join, write}
 use Rattle.fields.specs.Claims.{Each, Upto, here, past, LeftToRight}
 use Rattle.fields.specs.Extensions.{allLaid}
 use Rattle.fields.proofs.Answers.{bad-good, same-good}
@@ -62,6 +62,16 @@ laid-write (f ∷ fs) at h = let l = laid-write fs (at + length (laid (f .field)
 pub opaque-takes : (w least most : ℕ) (v : List ℕ) (at : ℕ) → least ≤ length v → length v ≤ most → vectorFilled w least most Opaque v at ≡ good (vectorBytes w Opaque v)
 unfolding vectorFilled bodySize wholes wrap
 opaque-takes w least most v at low high = rw (le-ltb _ _ low, le-ltb _ _ high, plain-fine v (at + w))
+
+-- and refuses others with 5 where it would start
+pub opaque-refuses : (w least most : ℕ) (v : List ℕ) (at : ℕ) → (least ≤ length v → length v ≤ most → ⊥) → vectorFilled w least most Opaque v at ≡ bad 5 at
+unfolding vectorFilled bodySize wholes
+opaque-refuses w least most v at h = go (ltb (length v) least) (ltb most (length v)) refl refl
+  where
+    go : (p q : Bool) → ltb (length v) least ≡ p → ltb most (length v) ≡ q → cond p (bad 5 at) (cond q (bad 5 at) (fine (inside Opaque (wrap Opaque v) (at + w)) (vectorBytes w Opaque v))) ≡ bad 5 at
+    go true q hp hq = refl
+    go false true hp hq = refl
+    go false false hp hq = absurd (h (ltb-false (length v) least hp) (ltb-false most (length v) hq))
 
 -- a number that was found: where it ends, what it is, and that its bytes hold it
 pub record IsNumber (w : ℕ) (s : List ℕ) (at : ℕ) (p : Part) : Type 0 where

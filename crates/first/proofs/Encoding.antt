@@ -197,10 +197,13 @@ module _ (e w : ℕ) (s : List ℕ) (bs : Bytes s) where
 pub zero-takes : (m : ℕ) → fill (OneOf One 0 0) (uint 0) m ≡ good (be 1 0)
 zero-takes m = one-of-judged One 0 0 0 [] m .0 (omega arith) (omega arith) .0
 
-entry-takes : (k : ℕ) → k ≤ 1 → (m : ℕ) → fill (OneOf Two 0 1) (uint k) m ≡ good (be 2 k)
+pub tree-hash-takes : (m : ℕ) → fill (OneOf One 1 1) (uint 1) m ≡ good (be 1 1)
+tree-hash-takes m = one-of-judged One 1 1 1 [] m .0 (omega arith) (omega arith) .0
+
+pub entry-takes : (k : ℕ) → k ≤ 1 → (m : ℕ) → fill (OneOf Two 0 1) (uint k) m ≡ good (be 2 k)
 entry-takes k h m = one-of-judged Two 0 1 k [] m .0 (omega arith) h .0
 
-hash-takes : (v : List ℕ) → length v ≡ 32 → (m : ℕ) → fill (Fixed 32) (bytes v) m ≡ good v
+pub hash-takes : (v : List ℕ) → length v ≡ 32 → (m : ℕ) → fill (Fixed 32) (bytes v) m ≡ good v
 hash-takes v h m = fixed-as-is 32 v [] m .0 h .1
 
 takes : (l : Line) (n : Numbers) (t : Vectors) → EntryIs l (n .«entry_type») → Fits (structureOf l n t) → Each TakesIt (filled n t l)
@@ -212,7 +215,7 @@ takes PrecertEntry n t k (h₀, h₁, h₂) =
 takes CertificateTimestamp n t k (h₀, h₁, h₂, h₃, h₄) =
     (zero-takes, (hash-takes (t .logId) h₀, ((λ m. refl), ((λ m. opaque-takes 2 0 65535 (t .extensions) m (omega arith) (omega arith)), ((λ m. refl), ((λ m. opaque-takes 2 0 65535 (t .signature) m (omega arith) (omega arith)), tt))))))
 takes TreeHead n t k (h₀, h₁, h₂) =
-    (zero-takes, ((λ m. one-of-judged One 1 1 1 [] m .0 (omega arith) (omega arith) .0), ((λ m. refl), ((λ m. refl), (hash-takes (t .rootHash) h₂, tt)))))
+    (zero-takes, (tree-hash-takes, ((λ m. refl), ((λ m. refl), (hash-takes (t .rootHash) h₂, tt)))))
 
 -- and so it is read
 back : (e w : ℕ) (s : List ℕ) (n : Numbers) (t : Vectors) (l : Line) → Sized n → LineIs e w (n .«entry_type») l → EntryIs l (n .«entry_type») → Fits (structureOf l n t) → s ≡ encoded (structureOf l n t) → IsRead (readFirst e w s)

@@ -15,18 +15,18 @@ use Rattle.fields.specs.declared.layout.Part.{Part}
 use Rattle.fields.specs.declared.layout.FieldRead.the-variants.{Found, Bad}
 use Rattle.fields.specs.Checked.{Checked, bad, then}
 use Rattle.fields.specs.Layout.{field, read}
-use Rattle.fields.specs.Write.{write}
+use Rattle.fields.specs.Write.{uint, bytes, fill, Filled, write}
 use Rattle.fields.specs.Effect.{effect}
-use Rattle.fields.proofs.Laid.{read-stops, read-goes, write-stops, write-goes}
-use Rattle.fields.proofs.Vectors.{number-there, one-of-judged}
+use Rattle.fields.proofs.Laid.{opaque-refuses, read-stops, read-goes, write-stops, write-goes}
+use Rattle.fields.proofs.Vectors.{number-there, one-of-judged, fixed-as-is}
 use Rattle.first.specs.declared.table.Line.{Line}
 use Rattle.first.specs.declared.table.Line.the-variants.{X509Entry, PrecertEntry, CertificateTimestamp, TreeHead}
 use Rattle.first.specs.declared.writer.Numbers.{Numbers}
-use Rattle.first.specs.Table.{version, leafType, entryType, signatureType, timestamp, layoutOf, lineOf}
+use Rattle.first.specs.Table.{version, leafType, entryType, signatureType, timestamp, certificate, layoutOf, lineOf}
 use Rattle.first.specs.First.{structure, entryAt, readFirst, Vectors, filled, writeFirst}
-use Rattle.first.specs.Claims.{Named, FourThere}
-use Rattle.first.proofs.Wholes.{LineIs, x509, precert, timestamp as isTimestamp, head as isHead, lines}
-use Rattle.first.proofs.Encoding.{zero-takes}
+use Rattle.first.specs.Claims.{Named, FourThere, FiveThere}
+use Rattle.first.proofs.Wholes.{LineIs, x509, precert, timestamp as isTimestamp, head as isHead, lines, is-line}
+use Rattle.first.proofs.Encoding.{zero-takes, entry-takes, tree-hash-takes, hash-takes}
 
 -- whatever line a name has, its fields refuse
 refuses : (w : ℕ) (s : List ℕ) (y : ℕ) → length s ≤ mostItem → Named 1 w → ((l : Line) → LineIs 1 w (entryAt s) l → read (layoutOf l) s 0 ≡ bad 4 y) → readFirst 1 w s ≡ bad 4 y
@@ -65,25 +65,70 @@ entry-stops fs time k r ht low fit =
     (read-goes timestamp _ s 2 4 10 _ (number-there 8 time (be 2 k ++ r) 2 ht)
     (read-stops entryType fs s 10 4 10 e)))
 
-module _ (n : Numbers) (t : Vectors) (out : List ℕ) (low : 1 < n .«entry_type») where
-  entry-refused : write (filled n t X509Entry) 0 ≡ bad 4 10
+-- what the fields of a line refuse, the writer does
+line-refuses : (w x y : ℕ) (l : Line) (n : Numbers) (t : Vectors) (out : List ℕ) → LineIs 1 w (n .«entry_type») l → write (filled n t l) 0 ≡ bad x y → writeFirst 1 w n t out .answer ≡ bad x y
+unfolding writeFirst
+line-refuses w x y l n t out i h = rw (is-line 1 w (n .«entry_type») l i, h)
+
+module _ (n : Numbers) (t : Vectors) (out : List ℕ) where
+  entry-refused : 1 < n .«entry_type» → writeFirst 1 1 n t out .answer ≡ bad 4 10
   unfolding be
-  entry-refused =
-      write-goes _ _ 0 4 10 (be 1 0) (zero-takes 0)
+  entry-refused low =
+      line-refuses 1 4 10 X509Entry n t out (x509 refl refl (λ z. omega arith))
+      (write-goes _ _ 0 4 10 (be 1 0) (zero-takes 0)
       (write-goes _ _ 1 4 10 (be 1 0) (zero-takes 1)
       (write-goes _ _ 2 4 10 (be 8 (n .timestamp)) refl
-      (write-stops _ _ 10 4 10 (one-of-judged Two 0 1 (n .«entry_type») [] 10 .1 (λ u v. omega arith) .0))))
+      (write-stops _ _ 10 4 10 (one-of-judged Two 0 1 (n .«entry_type») [] 10 .1 (λ u v. omega arith) .0)))))
 
-  writer-refuses : writeFirst 1 1 n t out .answer ≡ bad 4 10
-  unfolding writeFirst
-  writer-refuses =
-      lines 1 1 (n .«entry_type») (λ a. effect out (then a (λ l. write (filled n t l) 0)) .answer ≡ bad 4 10) found (λ u. absurd (u (refl, omega arith, omega arith)))
-    where
-      found : (l : Line) → LineIs 1 1 (n .«entry_type») l → effect out (write (filled n t l) 0) .answer ≡ bad 4 10
-      found X509Entry i = rw entry-refused
-      found PrecertEntry (precert x y k) = absurd (omega arith)
-      found CertificateTimestamp (isTimestamp x y) = absurd (omega arith)
-      found TreeHead (isHead x y) = absurd (omega arith)
+  -- behind the entry type
+  behind : (fs : List Filled) (k x y : ℕ) → k ≤ 1 → write fs 12 ≡ bad x y → write (record { field = version; value = uint 0 } ∷ record { field = leafType; value = uint 0 } ∷ record { field = timestamp; value = uint (n .timestamp) } ∷ record { field = entryType; value = uint k } ∷ fs) 0 ≡ bad x y
+  unfolding be
+  behind fs k x y h e =
+      write-goes _ _ 0 x y (be 1 0) (zero-takes 0)
+      (write-goes _ _ 1 x y (be 1 0) (zero-takes 1)
+      (write-goes _ _ 2 x y (be 8 (n .timestamp)) refl
+      (write-goes _ _ 10 x y (be 2 k) (entry-takes k h 10) e)))
+
+  log-refused : (length (t .logId) ≡ 32 → ⊥) → writeFirst 1 2 n t out .answer ≡ bad 5 1
+  unfolding be
+  log-refused h =
+      line-refuses 2 5 1 CertificateTimestamp n t out (isTimestamp refl refl)
+      (write-goes _ _ 0 5 1 (be 1 0) (zero-takes 0) (write-stops _ _ 1 5 1 (fixed-as-is 32 (t .logId) [] 1 .1 h)))
+
+  root-refused : (length (t .rootHash) ≡ 32 → ⊥) → writeFirst 1 3 n t out .answer ≡ bad 5 18
+  unfolding be
+  root-refused h =
+      line-refuses 3 5 18 TreeHead n t out (isHead refl refl)
+      (write-goes _ _ 0 5 18 (be 1 0) (zero-takes 0)
+      (write-goes _ _ 1 5 18 (be 1 1) (tree-hash-takes 1)
+      (write-goes _ _ 2 5 18 (be 8 (n .timestamp)) refl
+      (write-goes _ _ 10 5 18 (be 8 (n .size)) refl
+      (write-stops _ _ 18 5 18 (fixed-as-is 32 (t .rootHash) [] 18 .1 h))))))
+
+  issuer-refused : n .«entry_type» ≡ 1 → (length (t .issuerKeyHash) ≡ 32 → ⊥) → writeFirst 1 1 n t out .answer ≡ bad 5 12
+  issuer-refused k h =
+      line-refuses 1 5 12 PrecertEntry n t out (precert refl refl k)
+      (behind _ (n .«entry_type») 5 12 (omega arith) (write-stops _ _ 12 5 12 (fixed-as-is 32 (t .issuerKeyHash) [] 12 .1 h)))
+
+  module _ (h : 1 ≤ length (t .certificate) → length (t .certificate) < 2 ^ 24 → ⊥) where
+    out-of-range : (m : ℕ) → fill certificate (bytes (t .certificate)) m ≡ bad 5 m
+    out-of-range m = opaque-refuses 3 1 16777215 (t .certificate) m (λ u v. h u (omega arith))
+
+    certificate-refused : n .«entry_type» ≡ 0 → writeFirst 1 1 n t out .answer ≡ bad 5 12
+    certificate-refused k =
+        line-refuses 1 5 12 X509Entry n t out (x509 refl refl (λ z. omega arith))
+        (behind _ (n .«entry_type») 5 12 (omega arith) (write-stops _ _ 12 5 12 (out-of-range 12)))
+
+    tbs-refused : n .«entry_type» ≡ 1 → length (t .issuerKeyHash) ≡ 32 → writeFirst 1 1 n t out .answer ≡ bad 5 44
+    tbs-refused k i =
+        let l : 12 + length (t .issuerKeyHash) ≡ 44 = omega arith in
+        line-refuses 1 5 44 PrecertEntry n t out (precert refl refl k)
+        (behind _ (n .«entry_type») 5 44 (omega arith)
+        (write-goes _ _ 12 5 44 (t .issuerKeyHash) (hash-takes (t .issuerKeyHash) i 12) (rw l (write-stops _ _ 44 5 44 (out-of-range 44)))))
+
+pub five-there : FiveThere
+five-there n t out =
+    (log-refused n t out, root-refused n t out, issuer-refused n t out, (λ h. (certificate-refused n t out h, tbs-refused n t out h)))
 
 pub four-there : FourThere
 four-there w b r n fit = (
@@ -91,7 +136,7 @@ four-there w b r n fit = (
   (λ l h. refuses 1 (be 1 0 ++ (be 1 b ++ r)) 1 l (refl, omega arith, omega arith) (leaf h)),
   (λ l h. refuses 3 (be 1 0 ++ (be 1 b ++ r)) 1 l (refl, omega arith, omega arith) (head h)),
   (λ time k l ht low high. refuses 1 (be 1 0 ++ (be 1 0 ++ (be 8 time ++ (be 2 k ++ r)))) 10 l (refl, omega arith, omega arith) (entry time k ht low high)),
-  writer-refuses,
+  entry-refused,
 )
   where
     leaf : (b ≡ 0 → ⊥) → (l : Line) → LineIs 1 1 (entryAt (be 1 0 ++ (be 1 b ++ r))) l → read (layoutOf l) (be 1 0 ++ (be 1 b ++ r)) 0 ≡ bad 4 1

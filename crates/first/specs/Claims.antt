@@ -119,6 +119,17 @@ FourThere =
     → readFirst 1 1 (be 1 0 ++ (be 1 0 ++ (be 8 time ++ (be 2 k ++ r)))) ≡ bad 4 10)
     × ((n : Numbers) (t : Vectors) (out : List ℕ) → 1 < n .«entry_type» → writeFirst 1 1 n t out .answer ≡ bad 4 10)
 
+-- the writer refuses a hash that has not 32 bytes, and a certificate out of its range, with 5 where it would start, whatever the other fields are
+abbrev pub FiveThere : Type 0
+FiveThere =
+    (n : Numbers) (t : Vectors) (out : List ℕ)
+    → (length (t .logId) ≢ 32 → writeFirst 1 2 n t out .answer ≡ bad 5 1)
+    × (length (t .rootHash) ≢ 32 → writeFirst 1 3 n t out .answer ≡ bad 5 18)
+    × (n .«entry_type» ≡ 1 → length (t .issuerKeyHash) ≢ 32 → writeFirst 1 1 n t out .answer ≡ bad 5 12)
+    × ((1 ≤ length (t .certificate) → length (t .certificate) < 2 ^ 24 → ⊥)
+    → (n .«entry_type» ≡ 0 → writeFirst 1 1 n t out .answer ≡ bad 5 12)
+    × (n .«entry_type» ≡ 1 → length (t .issuerKeyHash) ≡ 32 → writeFirst 1 1 n t out .answer ≡ bad 5 44))
+
 -- extensions are opaque here: no order is asked
 abbrev pub NoFifteen : Type 0
 NoFifteen = (e w : ℕ) (s : List ℕ) (y : ℕ) → readFirst e w s ≢ bad 15 y

@@ -8,7 +8,7 @@ mod table;
 mod writer;
 
 ghost use Rattle.first.specs.Claims.{ReadThenWritten, WrittenThenRead, WriterKeeps, RefusedWithin, FieldsWithin};
-ghost use Rattle.first.specs.Claims.{ReadIsEncoded, WrittenIsEncoded, LongFirst, NameNext, RoomLast, FourThere, NoFifteen};
+ghost use Rattle.first.specs.Claims.{ReadIsEncoded, WrittenIsEncoded, LongFirst, NameNext, RoomLast, FourThere, FiveThere, NoFifteen};
 pub use reader::First;
 pub use reader::read;
 pub use table::MERKLE_TREE_LEAF;
@@ -31,5 +31,6 @@ pub fn claims()
     ensures name_next { λ _. ⌜ NameNext ⌝ }
     ensures room_last { λ _. ⌜ RoomLast ⌝ }
     ensures four_there { λ _. ⌜ FourThere ⌝ }
+    ensures five_there { λ _. ⌜ FiveThere ⌝ }
     ensures no_fifteen { λ _. ⌜ NoFifteen ⌝ }
 {}
