@@ -1,10 +1,10 @@
 -- Fields that were filled, all of them, and what they are laid out as; fields that were read, one after the other. Assumes nothing.
-use mathlib.Core.Path.{_≡_, refl, ap, ap₂, sym, _∙_}
+use mathlib.Core.Path.{_≡_, refl, ap, ap₂, sym, subst, _∙_}
 use mathlib.Core.List.{List, [], _∷_, _++_}
 use mathlib.Core.Bool.{Bool, true, false, cond, _&&_}
 use Prim.Native.Nat.{ℕ, _+_, _^_, _≤_, _<_}
 use native.Mathlib.Omega.{arith}
-use lib.ListN.{length, take, drop, length-append}
+use lib.ListN.{length, take, drop, length-append, length-drop}
 use lib.Seq.{length-take-le}
 use lib.Dec.{ltb, leb}
 use borrow.Author.Tests.{lt-ltb, le-ltb, ltb-false, leb-true}
@@ -20,11 +20,11 @@ use Rattle.fields.specs.declared.layout.FieldRead.the-variants.{Found, B
 use Rattle.fields.specs.Checked.{Checked, good, bad, then}
 use Rattle.fields.specs.Layout.{inside, allowed, numberAt, oneOfAt, field, next, push, read}
 use Rattle.fields.specs.Write.{vectorBytes, vectorFilled, bodySize, wholes, wrap, fine, fill, laid, Filled, join, write}
-use Rattle.fields.specs.Claims.{Each, Upto, here, past, LeftToRight}
+use Rattle.fields.specs.Claims.{Each, lead, LongAs, InARow, ReadInARow, Upto, here, past, LeftToRight}
 use Rattle.fields.specs.Extensions.{allLaid}
 use Rattle.fields.proofs.Answers.{bad-good, same-good}
 use Rattle.fields.proofs.Places.{plain-fine}
-use Rattle.fields.proofs.Founds.{found-number, found-one-of}
+use Rattle.fields.proofs.Founds.{found-number, found-vector, found-one-of, found-fixed, found-within}
 use Rattle.fields.proofs.Fills.{fill-laid}
 use Rattle.fields.proofs.Vectors.{bytes-take, bytes-drop}
 
@@ -145,6 +145,33 @@ write-stops f fs at x y e = rw e
 pub write-goes : (f : Filled) (fs : List Filled) (at x y : ℕ) (b : List ℕ) → fill (f .field) (f .value) at ≡ good b → write fs (at + length b) ≡ bad x y → write (f ∷ fs) at ≡ bad x y
 unfolding write
 write-goes f fs at x y b e h = rw (e, h)
+
+-- where a field that was found lies
+found-lies : (f : Field) (r : List ℕ) (at : ℕ) (p : Part) → field f r at ≡ Found p → (p .start ≡ at + lead f) × LongAs f p
+found-lies (Uint w) r at p e = let h = found-number (widthOf w) r at p e .0 in rw h (omega arith, refl)
+found-lies (Vector w least most i) r at p e = let h = found-vector (widthOf w) least most i r at p e .is in rw h (refl, refl)
+found-lies (OneOf w least most) r at p e = let h = found-number (widthOf w) r at p (found-one-of (widthOf w) least most r at p e .0) .0 in rw h (omega arith, refl)
+found-lies (Fixed n) r at p e = let h = found-fixed n r at p e .0 in rw h (omega arith, refl)
+
+pub read-in-a-row : ReadInARow
+unfolding read
+read-in-a-row [] s at ps l e = go (ltb at (length s)) refl e
+  where
+    go : (b : Bool) → ltb at (length s) ≡ b → cond b (bad 3 at) (good []) ≡ good ps → InARow [] ps at (length s)
+    go true h e = bad-good 3 at ps e
+    go false h e = subst (λ (q : List Part). InARow [] q at (length s)) (same-good [] ps e) (omega (arith, ltb-false at (length s) h))
+read-in-a-row (f ∷ fs) s at ps l e = go (field f (drop at s) at) refl e (λ p. read-in-a-row fs s (p .start + p .len))
+  where
+    go : (x : FieldRead) → field f (drop at s) at ≡ x → next x (λ p. push p (read fs s (p .start + p .len))) ≡ good ps → ((p : Part) (qs : List Part) → p .start + p .len ≤ length s → read fs s (p .start + p .len) ≡ good qs → InARow fs qs (p .start + p .len) (length s)) → InARow (f ∷ fs) ps at (length s)
+    go (Bad x y) h e less = bad-good x y ps e
+    go (Found p) h e less = more (read fs s (p .start + p .len)) refl e
+      where
+        more : (a : Checked (List Part)) → read fs s (p .start + p .len) ≡ a → push p a ≡ good ps → InARow (f ∷ fs) ps at (length s)
+        more (bad x y) ha e = bad-good x y ps e
+        more (good qs) ha e =
+            let k = found-lies f (drop at s) at p h in
+            let w : p .start + p .len ≤ length s = omega (arith, found-within f (drop at s) at p h, length-drop at s) in
+            subst (λ (q : List Part). InARow (f ∷ fs) q at (length s)) (same-good (p ∷ qs) ps e) (k .0, k .1, less p qs w ha)
 
 -- the first bad field decides
 upto-stops : (fs gs : List Field) (f : Field) (s : List ℕ) (at end x y : ℕ) → Upto s fs at end → field f (drop end s) end ≡ Bad x y → read (fs ++ (f ∷ gs)) s at ≡ bad x y

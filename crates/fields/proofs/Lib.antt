@@ -18,6 +18,7 @@ pub mod Telling
 pub mod Filling
 pub mod Reaching
 pub mod Laid
+pub mod Cutting
 pub mod Putting
 pub mod Stripping
 pub mod Hashing

@@ -2,7 +2,9 @@
 use Prim.Native.Nat.{ℕ, _+_, _-_, _*_, _^_, _≤_, _<_}
 use mathlib.Core.Path.{_≡_}
 use mathlib.Core.Logic.{_≢_}
-use mathlib.Core.List.{List, [], _∷_, _++_}
+use mathlib.Core.List.{List, [], _∷_, _++_, map}
+use mathlib.Core.Bool.{cond}
+use lib.Dec.{ltb}
 use lib.ListN.{length, getD, take, drop}
 use Rattle.octets.specs.Bytes.{Bytes, joined}
 use Rattle.octets.specs.declared.number.Width.{Width}
@@ -14,7 +16,7 @@ use Rattle.fields.specs.declared.layout.Field.the-variants.{Uint, Vector
 use Rattle.fields.specs.declared.layout.FieldRead.the-variants.{Found, Bad}
 use Rattle.fields.specs.Checked.{Checked, good, bad}
 use Rattle.fields.specs.Layout.{inside, whole, field, read, partsFound, bytesAt}
-use Rattle.fields.specs.Write.{Value, uint, bytes, fill, Filled, write, opened, values}
+use Rattle.fields.specs.Write.{Value, uint, bytes, fill, laid, Filled, write, opened, values}
 use Rattle.fields.specs.Effect.{wrote, effect}
 use Rattle.fields.specs.Path.{encoded, pathAt, copyPath}
 
@@ -101,6 +103,28 @@ pub record ReadBack (fs : List Filled) (front b : List ℕ) : Type 0 where
 abbrev pub LayoutBack : Type 0
 LayoutBack = (fs : List Filled) (front b : List ℕ) → AllTyped fs → write fs (length front) ≡ good b → ReadBack fs front b
 
+-- over any layout: the fields that are read lie in a row, each behind its prefix if it has one, from the place where reading began to the end of the bytes
+abbrev pub lead : Field → ℕ
+lead (Uint w) = 0
+lead (Vector w least most i) = widthOf w
+lead (OneOf w least most) = 0
+lead (Fixed n) = 0
+
+abbrev pub LongAs : Field → Part → Type 0
+LongAs (Uint w) p = p .len ≡ widthOf w
+LongAs (Vector w least most i) p = p .len ≡ p .value
+LongAs (OneOf w least most) p = p .len ≡ widthOf w
+LongAs (Fixed n) p = p .len ≡ n
+
+abbrev pub InARow : List Field → List Part → ℕ → ℕ → Type 0
+InARow [] [] at end = at ≡ end
+InARow [] (p ∷ ps) at end = ⊥
+InARow (f ∷ fs) [] at end = ⊥
+InARow (f ∷ fs) (p ∷ ps) at end = (p .start ≡ at + lead f) × LongAs f p × InARow fs ps (p .start + p .len) end
+
+abbrev pub ReadInARow : Type 0
+ReadInARow = (fs : List Field) (s : List ℕ) (at : ℕ) (ps : List Part) → at ≤ length s → read fs s at ≡ good ps → InARow fs ps at (length s)
+
 -- fields that are found one after the other, from a place up to another
 pub data Upto (s : List ℕ) : List Field → ℕ → ℕ → Type 0 where
   here : {at : ℕ} → Upto s [] at at
@@ -113,6 +137,26 @@ LeftToRight =
     × ((fs : List Field) (s : List ℕ) (at end : ℕ) → Upto s fs at end → end < length s → read fs s at ≡ bad 3 end)
     × ((fs gs : List Filled) (f : Filled) (at x y : ℕ) (b : List ℕ) → write fs at ≡ good b → fill (f .field) (f .value) (at + length b) ≡ bad x y
     → write (fs ++ (f ∷ gs)) at ≡ bad x y)
+
+-- where the piece starts that holds byte k of pieces that stand one after the other
+abbrev pub startOf : List (List ℕ) → ℕ → ℕ
+startOf [] k = 0
+startOf (b ∷ bs) k = cond (ltb k (length b)) 0 (length b + startOf bs (k - length b))
+
+-- over any layout: what was written, cut at any byte, is refused with 2 where the field starts that is cut, whatever fields are asked for behind; and with
+-- bytes behind it, it is refused with 3 where these start
+abbrev pub pieces : List Filled → List (List ℕ)
+pieces fs = map (λ (f : Filled). laid (f .field) (f .value)) fs
+
+abbrev pub CutThere : Type 0
+CutThere =
+    (fs : List Filled) (gs : List Field) (front b : List ℕ) (k : ℕ) → AllTyped fs → write fs (length front) ≡ good b → k < length b
+    → read (layout fs ++ gs) (front ++ take k b) (length front) ≡ bad 2 (length front + startOf (pieces fs) k)
+
+abbrev pub OverThere : Type 0
+OverThere =
+    (fs : List Filled) (front b : List ℕ) (c : ℕ) (r : List ℕ) → AllTyped fs → write fs (length front) ≡ good b
+    → read (layout fs) (front ++ (b ++ (c ∷ r))) (length front) ≡ bad 3 (length front + length b)
 
 -- the room is asked for last: what is refused is refused in any buffer, and what does not fit is 9 at 0
 abbrev pub RoomLast : Type 0

@@ -11,7 +11,7 @@ pub mod reading;
 pub mod writing;
 
 ghost use Rattle.fields.specs.Claims.{ReadThenFilled, FilledThenRead, VectorByElements, LayoutAgain, LayoutBack, FieldsWithin, RefusedWithin};
-ghost use Rattle.fields.specs.Claims.{OneOfJudged, FixedAsIs, CutFirst, LeftToRight, RoomLast, FoundBefore, CopiedIsJoined, JoinedIsCopied, CopyKeeps};
+ghost use Rattle.fields.specs.Claims.{OneOfJudged, FixedAsIs, CutFirst, ReadInARow, LeftToRight, CutThere, OverThere, RoomLast, FoundBefore, CopiedIsJoined, JoinedIsCopied, CopyKeeps};
 ghost use Rattle.fields.specs.Extensions.{FineIsExtended, OneList, FifteenIsOutOfOrder, StillRead, RefusedByOrder, FifteenInList};
 ghost use Rattle.fields.specs.Extensions.{ReadByOrder, OrderFirst, RefusedAsRead, LayoutRefusedAsRead};
 
@@ -25,7 +25,10 @@ pub fn claims()
     ensures cut_first { λ _. ⌜ CutFirst ⌝ }
     ensures layout_again { λ _. ⌜ LayoutAgain ⌝ }
     ensures layout_back { λ _. ⌜ LayoutBack ⌝ }
+    ensures read_in_a_row { λ _. ⌜ ReadInARow ⌝ }
     ensures left_to_right { λ _. ⌜ LeftToRight ⌝ }
+    ensures cut_there { λ _. ⌜ CutThere ⌝ }
+    ensures over_there { λ _. ⌜ OverThere ⌝ }
     ensures room_last { λ _. ⌜ RoomLast ⌝ }
     ensures fields_within { λ _. ⌜ FieldsWithin ⌝ }
     ensures refused_within { λ _. ⌜ RefusedWithin ⌝ }

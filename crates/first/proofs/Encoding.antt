@@ -1,6 +1,9 @@
 -- What is read and what is written are the structures as RFC 6962 writes them. Assumes nothing.
 use mathlib.Core.Path.{_≡_, refl, ap, sym, subst, _∙_}
 use mathlib.Core.List.{List, []}
+use mathlib.Core.Bool.{false}
+use lib.Dec.{eqb}
+use borrow.Author.Tests.{eq-eqb, ne-eqb}
 use Prim.Native.Nat.{ℕ, _^_, _≤_, _<_}
 use native.Mathlib.Omega.{arith}
 use lib.ListN.{length, getD}
@@ -30,25 +33,25 @@ use Rattle.first.specs.declared.writer.Numbers.{Numbers}
 use Rattle.first.specs.Structures.{Structure, leaf, certificateTimestamp as timestampOf, treeHead as headOf, x509, precert, encoded, Fits, nameOf}
 use Rattle.first.specs.Table.{layoutOf}
 use Rattle.first.specs.First.{Reading, reading, readFirst, Vectors, vectors, filled, writeFirst}
-use Rattle.first.specs.Claims.{Taken, Sized, Encodes, IsRead, ReadIsEncoded, WrittenIsEncoded}
+use Rattle.first.specs.Claims.{Taken, Sized, Encodes, IsRead, ReadIsEncoded, asked, Wrote, WrittenIsEncoded}
 use Rattle.first.proofs.Wholes.{LineIs, x509 as isX509, precert as isPrecert, timestamp as isTimestamp, head as isHead, was-read}
 use Rattle.first.proofs.Trips.{written-again, reads-back, was-written}
 
 -- the structure that a line is filled with
-abbrev structureOf : Line → Numbers → Vectors → Structure
+abbrev pub structureOf : Line → Numbers → Vectors → Structure
 structureOf X509Entry n t = leaf (n .timestamp) (x509 (t .certificate)) (t .extensions)
 structureOf PrecertEntry n t = leaf (n .timestamp) (precert (t .issuerKeyHash) (t .certificate)) (t .extensions)
 structureOf CertificateTimestamp n t = timestampOf (t .logId) (n .timestamp) (t .extensions) (n .algorithms) (t .signature)
 structureOf TreeHead n t = headOf (n .timestamp) (n .size) (t .rootHash)
 
-abbrev EntryIs : Line → ℕ → Type 0
+abbrev pub EntryIs : Line → ℕ → Type 0
 EntryIs X509Entry k = k ≡ 0
 EntryIs PrecertEntry k = k ≡ 1
 EntryIs CertificateTimestamp k = Unit
 EntryIs TreeHead k = Unit
 
 laid-encoded : (l : Line) (n : Numbers) (t : Vectors) → EntryIs l (n .«entry_type») → allLaid (filled n t l) ≡ encoded (structureOf l n t)
-unfolding encoded joined wrap
+unfolding joined wrap
 laid-encoded X509Entry n t e = rw e
 laid-encoded PrecertEntry n t e = rw e
 laid-encoded CertificateTimestamp n t e = refl
@@ -62,61 +65,78 @@ opaque-range w least most v at b e = let h = filled-vector w least most Opaque v
 entry-one : (n at : ℕ) (b : List ℕ) → oneOfFilled 2 0 1 n at ≡ good b → n ≤ 1
 entry-one n at b e = allowed-within 0 1 n (filled-one-of 2 0 1 n at b e .0) .1
 
+-- the entry type that a line has, where all of it is written
+pub entry-is : (e w : ℕ) (n : Numbers) (t : Vectors) (l : Line) (b : List ℕ) → LineIs e w (n .«entry_type») l → write (filled n t l) 0 ≡ good b → EntryIs l (n .«entry_type»)
+entry-is e w n t X509Entry b (isX509 x y k) q =
+    let h = write-laid (filled n t X509Entry) 0 b q in omega (arith, entry-one (n .«entry_type») _ _ (h .0 .1 .1 .1 .0 .fine))
+entry-is e w n t PrecertEntry b (isPrecert x y k) q = k
+entry-is e w n t CertificateTimestamp b i q = tt
+entry-is e w n t TreeHead b i q = tt
+
 -- what is written of a line is its structure
+pub line-encoded : (e w : ℕ) (n : Numbers) (t : Vectors) (l : Line) (b : List ℕ) → LineIs e w (n .«entry_type») l → write (filled n t l) 0 ≡ good b → b ≡ encoded (structureOf l n t)
+line-encoded e w n t l b i q = write-laid (filled n t l) 0 b q .1 ∙ laid-encoded l n t (entry-is e w n t l b i q)
+
+-- whose name is the one that was given
+line-named : (e w k : ℕ) (n : Numbers) (t : Vectors) (l : Line) → LineIs e w k l → (e ≡ 1) × (w ≡ nameOf (structureOf l n t))
+line-named e w k n t X509Entry (isX509 x y z) = (x, y)
+line-named e w k n t PrecertEntry (isPrecert x y z) = (x, y)
+line-named e w k n t CertificateTimestamp (isTimestamp x y) = (x, y)
+line-named e w k n t TreeHead (isHead x y) = (x, y)
+
+-- and whose fields are in their ranges
+line-fits : (n : Numbers) (t : Vectors) (l : Line) (b : List ℕ) → Sized n → write (filled n t l) 0 ≡ good b → Fits (structureOf l n t)
+line-fits n t X509Entry b z q =
+    let h = write-laid (filled n t X509Entry) 0 b q .0 in
+    let c = opaque-range 3 1 16777215 (t .certificate) _ _ (h .1 .1 .1 .1 .0 .fine) in
+    let g = opaque-range 2 0 65535 (t .extensions) _ _ (h .1 .1 .1 .1 .1 .0 .fine) in
+    (z .timestamp, (c .0, omega (arith, c .1)), omega (arith, g .1))
+line-fits n t PrecertEntry b z q =
+    let h = write-laid (filled n t PrecertEntry) 0 b q .0 in
+    let i = filled-fixed 32 (t .issuerKeyHash) _ _ (h .1 .1 .1 .1 .0 .fine) .0 in
+    let c = opaque-range 3 1 16777215 (t .certificate) _ _ (h .1 .1 .1 .1 .1 .0 .fine) in
+    let g = opaque-range 2 0 65535 (t .extensions) _ _ (h .1 .1 .1 .1 .1 .1 .0 .fine) in
+    (z .timestamp, (i, c .0, omega (arith, c .1)), omega (arith, g .1))
+line-fits n t CertificateTimestamp b z q =
+    let h = write-laid (filled n t CertificateTimestamp) 0 b q .0 in
+    let i = filled-fixed 32 (t .logId) _ _ (h .1 .0 .fine) .0 in
+    let g = opaque-range 2 0 65535 (t .extensions) _ _ (h .1 .1 .1 .0 .fine) in
+    let c = opaque-range 2 0 65535 (t .signature) _ _ (h .1 .1 .1 .1 .1 .0 .fine) in
+    (i, z .timestamp, omega (arith, g .1), z .algorithms, omega (arith, c .1))
+line-fits n t TreeHead b z q =
+    let h = write-laid (filled n t TreeHead) 0 b q .0 in
+    let i = filled-fixed 32 (t .rootHash) _ _ (h .1 .1 .1 .1 .0 .fine) .0 in
+    (z .timestamp, z .size, i)
+
 pub encodes : (e w : ℕ) (n : Numbers) (t : Vectors) (l : Line) (b : List ℕ) → Sized n → LineIs e w (n .«entry_type») l → write (filled n t l) 0 ≡ good b → Encodes e w b
-encodes e w n t X509Entry b z (isX509 x y k) q =
-    let h = write-laid (filled n t X509Entry) 0 b q in
-    let k₀ : n .«entry_type» ≡ 0 = omega (arith, entry-one (n .«entry_type») _ _ (h .0 .1 .1 .1 .0 .fine)) in
-    let c = opaque-range 3 1 16777215 (t .certificate) _ _ (h .0 .1 .1 .1 .1 .0 .fine) in
-    let g = opaque-range 2 0 65535 (t .extensions) _ _ (h .0 .1 .1 .1 .1 .1 .0 .fine) in
-    record {
-      is = structureOf X509Entry n t;
-      fits = (z .timestamp, (c .0, omega (arith, c .1)), omega (arith, g .1));
-      edition = x;
-      named = y;
-      bytes = h .1 ∙ laid-encoded X509Entry n t k₀;
-    }
-encodes e w n t PrecertEntry b z (isPrecert x y k) q =
-    let h = write-laid (filled n t PrecertEntry) 0 b q in
-    let i = filled-fixed 32 (t .issuerKeyHash) _ _ (h .0 .1 .1 .1 .1 .0 .fine) .0 in
-    let c = opaque-range 3 1 16777215 (t .certificate) _ _ (h .0 .1 .1 .1 .1 .1 .0 .fine) in
-    let g = opaque-range 2 0 65535 (t .extensions) _ _ (h .0 .1 .1 .1 .1 .1 .1 .0 .fine) in
-    record {
-      is = structureOf PrecertEntry n t;
-      fits = (z .timestamp, (i, c .0, omega (arith, c .1)), omega (arith, g .1));
-      edition = x;
-      named = y;
-      bytes = h .1 ∙ laid-encoded PrecertEntry n t k;
-    }
-encodes e w n t CertificateTimestamp b z (isTimestamp x y) q =
-    let h = write-laid (filled n t CertificateTimestamp) 0 b q in
-    let i = filled-fixed 32 (t .logId) _ _ (h .0 .1 .0 .fine) .0 in
-    let g = opaque-range 2 0 65535 (t .extensions) _ _ (h .0 .1 .1 .1 .0 .fine) in
-    let c = opaque-range 2 0 65535 (t .signature) _ _ (h .0 .1 .1 .1 .1 .1 .0 .fine) in
-    record {
-      is = structureOf CertificateTimestamp n t;
-      fits = (i, z .timestamp, omega (arith, g .1), z .algorithms, omega (arith, c .1));
-      edition = x;
-      named = y;
-      bytes = h .1 ∙ laid-encoded CertificateTimestamp n t tt;
-    }
-encodes e w n t TreeHead b z (isHead x y) q =
-    let h = write-laid (filled n t TreeHead) 0 b q in
-    let i = filled-fixed 32 (t .rootHash) _ _ (h .0 .1 .1 .1 .1 .0 .fine) .0 in
-    record {
-      is = structureOf TreeHead n t;
-      fits = (z .timestamp, z .size, i);
-      edition = x;
-      named = y;
-      bytes = h .1 ∙ laid-encoded TreeHead n t tt;
-    }
+encodes e w n t l b z i q =
+    let m = line-named e w (n .«entry_type») n t l i in
+    record { is = structureOf l n t; fits = line-fits n t l b z q; edition = m .0; named = m .1; bytes = line-encoded e w n t l b i q }
+
+-- it is the one that was asked for
+asked-is : (e w : ℕ) (n : Numbers) (t : Vectors) (l : Line) → LineIs e w (n .«entry_type») l → asked w n t ≡ structureOf l n t
+asked-is e w n t X509Entry (isX509 x y k) = rw (eq-eqb _ _ y, ne-eqb _ _ k)
+asked-is e w n t PrecertEntry (isPrecert x y k) = rw (eq-eqb _ _ y, eq-eqb _ _ k)
+asked-is e w n t CertificateTimestamp (isTimestamp x y) = let m : eqb w 1 ≡ false = ne-eqb w 1 (λ z. omega arith) in rw (m, eq-eqb _ _ y)
+asked-is e w n t TreeHead (isHead x y) =
+    let m : eqb w 1 ≡ false = ne-eqb w 1 (λ z. omega arith) in
+    let o : eqb w 2 ≡ false = ne-eqb w 2 (λ z. omega arith) in
+    rw (m, o)
 
 pub written-is-encoded : WrittenIsEncoded
 written-is-encoded e w n t out m z q =
     let h = was-written e w n t out m q in
-    subst (Encodes e w) (sym (h .bytes)) (encodes e w n t (h .line) (h .body) z (h .is) (h .fields))
+    let a = sym (asked-is e w n t (h .line) (h .is)) in
+    let k = line-named e w (n .«entry_type») n t (h .line) (h .is) in
+    subst (Wrote e w n t) (sym (h .bytes))
+    (record {
+      fits = subst Fits a (line-fits n t (h .line) (h .body) z (h .fields));
+      edition = k .0;
+      named = k .1 ∙ ap nameOf a;
+      bytes = line-encoded e w n t (h .line) (h .body) (h .is) (h .fields) ∙ ap encoded a;
+    })
 
-abbrev numbers : ℕ → ℕ → ℕ → ℕ → Numbers
+abbrev pub numbers : ℕ → ℕ → ℕ → ℕ → Numbers
 numbers time size entry algorithms = record { timestamp = time; size = size; «entry_type» = entry; algorithms = algorithms }
 
 -- what was read, as an answer and as a caller takes it
@@ -217,21 +237,46 @@ takes CertificateTimestamp n t k (h₀, h₁, h₂, h₃, h₄) =
 takes TreeHead n t k (h₀, h₁, h₂) =
     (zero-takes, (tree-hash-takes, ((λ m. refl), ((λ m. refl), (hash-takes (t .rootHash) h₂, tt)))))
 
--- and so it is read
-back : (e w : ℕ) (s : List ℕ) (n : Numbers) (t : Vectors) (l : Line) → Sized n → LineIs e w (n .«entry_type») l → EntryIs l (n .«entry_type») → Fits (structureOf l n t) → s ≡ encoded (structureOf l n t) → IsRead (readFirst e w s)
-back e w s n t l z i k f q =
-    let h = laid-write (filled n t l) 0 (takes l n t k f) ∙ ap good (laid-encoded l n t k ∙ sym q) in
-    rw (reads-back e w s n t l z i h .reads) tt
+-- every structure in its ranges is what some line is filled with
+pub record Shape (x : Structure) : Type 0 where
+  pub line : Line
+  pub given : Numbers
+  pub bytes : Vectors
+  pub sized : Sized given
+  pub is : LineIs 1 (nameOf x) (given .«entry_type») line
+  pub entry : EntryIs line (given .«entry_type»)
+  pub same : structureOf line given bytes ≡ x
+  pub written : write (filled given bytes line) 0 ≡ good (encoded x)
+
+pub shaped : (l : Line) (n : Numbers) (t : Vectors) → EntryIs l (n .«entry_type») → Fits (structureOf l n t) → write (filled n t l) 0 ≡ good (encoded (structureOf l n t))
+shaped l n t k f = laid-write (filled n t l) 0 (takes l n t k f) ∙ ap good (laid-encoded l n t k)
+
+pub small : (time size entry algorithms : ℕ) → time < 2 ^ 64 → size < 2 ^ 64 → entry < 2 ^ 16 → algorithms < 2 ^ 16 → Sized (numbers time size entry algorithms)
+small time size entry algorithms a b c d = record { timestamp = a; size = b; entryType = c; algorithms = d }
+
+unfoldable pub shape : (x : Structure) → Fits x → Shape x
+shape (leaf time (x509 c) x) f =
+    let n = numbers time 0 0 0 in
+    let t = vectors [] [] c x [] [] in
+    record { line = X509Entry; given = n; bytes = t; sized = small time 0 0 0 (f .0) (omega arith) (omega arith) (omega arith); is = isX509 refl refl (λ z. omega arith); entry = refl; same = refl; written = shaped X509Entry n t refl f }
+shape (leaf time (precert h c) x) f =
+    let n = numbers time 0 1 0 in
+    let t = vectors [] h c x [] [] in
+    record { line = PrecertEntry; given = n; bytes = t; sized = small time 0 1 0 (f .0) (omega arith) (omega arith) (omega arith); is = isPrecert refl refl refl; entry = refl; same = refl; written = shaped PrecertEntry n t refl f }
+shape (timestampOf l time x a g) f =
+    let n = numbers time 0 0 a in
+    let t = vectors l [] [] x g [] in
+    record { line = CertificateTimestamp; given = n; bytes = t; sized = small time 0 0 a (f .1) (omega arith) (omega arith) (f .3); is = isTimestamp refl refl; entry = tt; same = refl; written = shaped CertificateTimestamp n t tt f }
+shape (headOf time m r) f =
+    let n = numbers time m 0 0 in
+    let t = vectors [] [] [] [] [] r in
+    record { line = TreeHead; given = n; bytes = t; sized = small time m 0 0 (f .0) (f .1) (omega arith) (omega arith); is = isHead refl refl; entry = tt; same = refl; written = shaped TreeHead n t tt f }
 
 pub read-is-encoded : ReadIsEncoded
-read-is-encoded e w s bs = (forth e w s bs (readFirst e w s) refl, λ h. go (h .is) (h .fits) (h .edition) (h .named) (h .bytes))
+read-is-encoded e w s bs = (forth e w s bs (readFirst e w s) refl, back)
   where
-    go : (x : Structure) → Fits x → e ≡ 1 → w ≡ nameOf x → s ≡ encoded x → IsRead (readFirst e w s)
-    go (leaf time (x509 c) x) f a b q =
-        back e w s (numbers time 0 0 0) (vectors [] [] c x [] []) X509Entry (record { timestamp = f .0; size = omega arith; entryType = omega arith; algorithms = omega arith }) (isX509 a b (λ z. omega arith)) refl f q
-    go (leaf time (precert h c) x) f a b q =
-        back e w s (numbers time 0 1 0) (vectors [] h c x [] []) PrecertEntry (record { timestamp = f .0; size = omega arith; entryType = omega arith; algorithms = omega arith }) (isPrecert a b refl) refl f q
-    go (timestampOf l time x g h) f a b q =
-        back e w s (numbers time 0 0 g) (vectors l [] [] x h []) CertificateTimestamp (record { timestamp = f .1; size = omega arith; entryType = omega arith; algorithms = f .3 }) (isTimestamp a b) tt f q
-    go (headOf time n r) f a b q =
-        back e w s (numbers time n 0 0) (vectors [] [] [] [] [] r) TreeHead (record { timestamp = f .0; size = f .1; entryType = omega arith; algorithms = omega arith }) (isHead a b) tt f q
+    back : Encodes e w s → IsRead (readFirst e w s)
+    back h =
+        let k = shape (h .is) (h .fits) in
+        let r = reads-back 1 (nameOf (h .is)) (encoded (h .is)) (k .given) (k .bytes) (k .line) (k .sized) (k .is) (k .written) .reads in
+        rw (h .edition, h .named, h .bytes, r) tt

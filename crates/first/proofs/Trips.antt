@@ -39,14 +39,14 @@ use Rattle.first.proofs.Lines.{most-small}
 use Rattle.first.proofs.Wholes.{LineIs, x509, precert, timestamp as isTimestamp, head as isHead, lines, is-line, WasRead, was-read, reads}
 
 -- a version that was read is 0
-version-read : (fs : List Field) (s : List ℕ) (a : Part) (ps : List Part) → read (version ∷ fs) s 0 ≡ good (a ∷ ps) → (a .value ≡ 0) × (read fs s 1 ≡ good ps)
+pub version-read : (fs : List Field) (s : List ℕ) (a : Part) (ps : List Part) → read (version ∷ fs) s 0 ≡ good (a ∷ ps) → (a .value ≡ 0) × (read fs s 1 ≡ good ps)
 version-read fs s a ps e =
     let h = read-head version fs s 0 a ps e in
     let n = one-of-number 1 0 0 s 0 a (h .0) in
     (omega (arith, allowed-within 0 0 (a .value) (n .1) .1), rw (n .0 .end) at (h .1))
 
 -- the type behind it has the one value that is allowed
-type-read : (fs : List Field) (s : List ℕ) (x : ℕ) (b : Part) (ps : List Part) → read (OneOf One x x ∷ fs) s 1 ≡ good (b ∷ ps) → (b .value ≡ x) × (read fs s 2 ≡ good ps)
+pub type-read : (fs : List Field) (s : List ℕ) (x : ℕ) (b : Part) (ps : List Part) → read (OneOf One x x ∷ fs) s 1 ≡ good (b ∷ ps) → (b .value ≡ x) × (read fs s 2 ≡ good ps)
 type-read fs s x b ps e =
     let h = read-head (OneOf One x x) fs s 1 b ps e in
     let n = one-of-number 1 x x s 1 b (h .0) in
@@ -115,11 +115,11 @@ read-then-written e w s out i n t bs d k fit = go (reading i) refl d
         not-taken (treeHead a b c d f) e k = good-bad x y _ e
 
 -- every field of a line can hold what the writer is given for it
-all-typed : (fs : List Filled) → Each (λ (f : Filled). Typed (f .field) (f .value)) fs → AllTyped fs
+pub all-typed : (fs : List Filled) → Each (λ (f : Filled). Typed (f .field) (f .value)) fs → AllTyped fs
 all-typed [] h = no-fields
 all-typed (f ∷ fs) h = one-field (h .0) (all-typed fs (h .1))
 
-typed : (n : Numbers) (t : Vectors) → Sized n → (l : Line) → AllTyped (filled n t l)
+pub typed : (n : Numbers) (t : Vectors) → Sized n → (l : Line) → AllTyped (filled n t l)
 typed n t z X509Entry =
     all-typed (filled n t X509Entry) (omega arith, (omega arith, (z .timestamp, (z .entryType, (omega arith, (omega arith, tt))))))
 typed n t z PrecertEntry =
@@ -128,7 +128,7 @@ typed n t z CertificateTimestamp =
     all-typed (filled n t CertificateTimestamp) (omega arith, (tt, (z .timestamp, (omega arith, (z .algorithms, (omega arith, tt))))))
 typed n t z TreeHead = all-typed (filled n t TreeHead) (omega arith, (omega arith, (z .timestamp, (z .size, (tt, tt)))))
 
-filled-layout : (n : Numbers) (t : Vectors) (l : Line) → layout (filled n t l) ≡ layoutOf l
+pub filled-layout : (n : Numbers) (t : Vectors) (l : Line) → layout (filled n t l) ≡ layoutOf l
 filled-layout n t X509Entry = refl
 filled-layout n t PrecertEntry = refl
 filled-layout n t CertificateTimestamp = refl

@@ -3,19 +3,23 @@ use Prim.Native.Nat.{ℕ, _+_, _^_, _≤_, _<_}
 use mathlib.Core.Path.{_≡_}
 use mathlib.Core.Logic.{_↔_, _≢_}
 use mathlib.Core.List.{List, [], _∷_, _++_}
+use mathlib.Core.Bool.{cond}
 use lib.ListN.{length, take, drop}
+use lib.Dec.{eqb}
 use Rattle.octets.specs.Bytes.{Bytes}
 use Rattle.octets.specs.Limits.{mostItem}
 use Rattle.octets.specs.Numbers.{be}
 use Rattle.fields.specs.Checked.{Checked, good, bad}
 use Rattle.fields.specs.Layout.{bytesAt}
 use Rattle.fields.specs.Effect.{wrote}
-use Rattle.fields.specs.Claims.{Each}
+use Rattle.fields.specs.declared.layout.Part.{Part}
+use Rattle.fields.specs.Claims.{Each, startOf}
 use Rattle.first.specs.declared.reader.First.{First}
 use Rattle.first.specs.declared.reader.First.the-variants.{X509Entry as x509Entry, PrecertEntry as precertEntry}
 use Rattle.first.specs.declared.reader.First.the-variants.{CertificateTimestamp as certificateTimestamp, TreeHead as treeHead, Refused as refused}
 use Rattle.first.specs.declared.writer.Numbers.{Numbers}
-use Rattle.first.specs.Structures.{Structure, encoded, Fits, nameOf}
+use Rattle.first.specs.Structures.{Structure, leaf, certificateTimestamp as timestampOf, treeHead as headOf, x509, precert}
+use Rattle.first.specs.Structures.{fieldBytes, encoded, Fits, nameOf}
 use Rattle.first.specs.First.{Reading, reading, readFirst, Vectors, writeFirst}
 
 -- What a caller takes of the reader's answer and hands to the writer, with the same name: each number as it was answered, the other fields' bytes where they
@@ -82,11 +86,70 @@ IsRead (bad x at) = ⊥
 abbrev pub ReadIsEncoded : Type 0
 ReadIsEncoded = (e w : ℕ) (s : List ℕ) → Bytes s → IsRead (readFirst e w s) ↔ Encodes e w s
 
--- and what is written is one
+-- the structure that the writer is asked for: by its name, and a leaf by the entry type
+abbrev pub asked : ℕ → Numbers → Vectors → Structure
+asked w n t =
+    cond (eqb w 1)
+    (leaf (n .timestamp) (cond (eqb (n .«entry_type») 1) (precert (t .issuerKeyHash) (t .certificate)) (x509 (t .certificate))) (t .extensions))
+    (cond (eqb w 2) (timestampOf (t .logId) (n .timestamp) (t .extensions) (n .algorithms) (t .signature)) (headOf (n .timestamp) (n .size) (t .rootHash)))
+
+-- what is written is that structure
+pub record Wrote (e w : ℕ) (n : Numbers) (t : Vectors) (s : List ℕ) : Type 0 where
+  pub fits : Fits (asked w n t)
+  pub edition : e ≡ 1
+  pub named : w ≡ nameOf (asked w n t)
+  pub bytes : s ≡ encoded (asked w n t)
+
 abbrev pub WrittenIsEncoded : Type 0
 WrittenIsEncoded =
     (e w : ℕ) (n : Numbers) (t : Vectors) (out : List ℕ) (m : ℕ) → Sized n → writeFirst e w n t out .answer ≡ good m
-    → Encodes e w (take m (writeFirst e w n t out .bytes))
+    → Wrote e w n t (take m (writeFirst e w n t out .bytes))
+
+-- where a part lies
+abbrev pub LiesAt : Part → ℕ → ℕ → Type 0
+LiesAt p start len = (p .start ≡ start) × (p .len ≡ len)
+
+-- what the reader answers is the structure that the bytes are, each field by its name and at its place; a vector's bytes lie behind its length
+abbrev pub Says : List ℕ → First → Type 0
+Says s (x509Entry version leafType timestamp entryType certificate extensions) =
+    (s ≡ encoded (leaf (timestamp .value) (x509 (bytesAt s certificate)) (bytesAt s extensions)))
+    × LiesAt version 0 1 × (version .value ≡ 0) × LiesAt leafType 1 1 × (leafType .value ≡ 0) × LiesAt timestamp 2 8
+    × LiesAt entryType 10 2 × (entryType .value ≡ 0) × (certificate .start ≡ 15) × (extensions .start ≡ 17 + certificate .len)
+Says s (precertEntry version leafType timestamp entryType issuerKeyHash tbsCertificate extensions) =
+    (s ≡ encoded (leaf (timestamp .value) (precert (bytesAt s issuerKeyHash) (bytesAt s tbsCertificate)) (bytesAt s extensions)))
+    × LiesAt version 0 1 × (version .value ≡ 0) × LiesAt leafType 1 1 × (leafType .value ≡ 0) × LiesAt timestamp 2 8
+    × LiesAt entryType 10 2 × (entryType .value ≡ 1) × LiesAt issuerKeyHash 12 32 × (tbsCertificate .start ≡ 47)
+    × (extensions .start ≡ 49 + tbsCertificate .len)
+Says s (certificateTimestamp version logId timestamp extensions algorithms signature) =
+    (s ≡ encoded (timestampOf (bytesAt s logId) (timestamp .value) (bytesAt s extensions) (algorithms .value) (bytesAt s signature)))
+    × LiesAt version 0 1 × (version .value ≡ 0) × LiesAt logId 1 32 × LiesAt timestamp 33 8 × (extensions .start ≡ 43)
+    × LiesAt algorithms (43 + extensions .len) 2 × (signature .start ≡ 47 + extensions .len)
+Says s (treeHead version signatureType timestamp size rootHash) =
+    (s ≡ encoded (headOf (timestamp .value) (size .value) (bytesAt s rootHash)))
+    × LiesAt version 0 1 × (version .value ≡ 0) × LiesAt signatureType 1 1 × (signatureType .value ≡ 1) × LiesAt timestamp 2 8 × LiesAt size 10 8
+    × LiesAt rootHash 18 32
+Says s (refused number place) = Unit
+
+abbrev pub ReadSays : Type 0
+ReadSays = (e w : ℕ) (s : List ℕ) (i : First) → Bytes s → reading i ≡ readFirst e w s → Says s i
+
+-- a structure that is cut is refused with 2 where the field starts that is cut, and one with bytes behind it with 3 where these start
+abbrev pub CutThere : Type 0
+CutThere = (x : Structure) (k : ℕ) → Fits x → k < length (encoded x) → readFirst 1 (nameOf x) (take k (encoded x)) ≡ bad 2 (startOf (fieldBytes x) k)
+
+abbrev pub OverThere : Type 0
+OverThere =
+    (x : Structure) (b : ℕ) (r : List ℕ) → Fits x → length (encoded x ++ (b ∷ r)) ≤ mostItem
+    → readFirst 1 (nameOf x) (encoded x ++ (b ∷ r)) ≡ bad 3 (length (encoded x))
+
+-- some structures byte by byte
+abbrev pub ByHand : Type 0
+ByHand =
+    (encoded (leaf 7 (x509 (0x63 ∷ [])) []) ≡ 0 ∷ 0 ∷ 0 ∷ 0 ∷ 0 ∷ 0 ∷ 0 ∷ 0 ∷ 0 ∷ 7 ∷ 0 ∷ 0 ∷ 0 ∷ 0 ∷ 1 ∷ 0x63 ∷ 0 ∷ 0 ∷ [])
+    × (encoded (leaf 7 (precert (1 ∷ 2 ∷ []) (3 ∷ [])) (4 ∷ []))
+    ≡ 0 ∷ 0 ∷ 0 ∷ 0 ∷ 0 ∷ 0 ∷ 0 ∷ 0 ∷ 0 ∷ 7 ∷ 0 ∷ 1 ∷ 1 ∷ 2 ∷ 0 ∷ 0 ∷ 1 ∷ 3 ∷ 0 ∷ 1 ∷ 4 ∷ [])
+    × (encoded (timestampOf (1 ∷ 2 ∷ []) 7 (3 ∷ []) 0x0403 (5 ∷ [])) ≡ 0 ∷ 1 ∷ 2 ∷ 0 ∷ 0 ∷ 0 ∷ 0 ∷ 0 ∷ 0 ∷ 0 ∷ 7 ∷ 0 ∷ 1 ∷ 3 ∷ 4 ∷ 3 ∷ 0 ∷ 1 ∷ 5 ∷ [])
+    × (encoded (headOf 7 8 (1 ∷ 2 ∷ [])) ≡ 0 ∷ 1 ∷ 0 ∷ 0 ∷ 0 ∷ 0 ∷ 0 ∷ 0 ∷ 0 ∷ 7 ∷ 0 ∷ 0 ∷ 0 ∷ 0 ∷ 0 ∷ 0 ∷ 0 ∷ 8 ∷ 1 ∷ 2 ∷ [])
 
 -- 1 comes first, whatever the name; then the name, whatever the bytes, and for the writer whatever the fields and the room
 abbrev pub LongFirst : Type 0

@@ -20,12 +20,16 @@ pub data Structure : Type 0 where
 abbrev pub opaque : ℕ → List ℕ → List ℕ
 opaque w b = be w (length b) ++ b
 
--- version v1(0), leaf_type timestamped_entry(0), then the timestamped entry; version v1(0) and the log's id; version v1(0), signature_type tree_hash(1)
-unfoldable pub encoded : Structure → List ℕ
-encoded (leaf t (x509 c) x) = joined (be 1 0 ∷ be 1 0 ∷ be 8 t ∷ be 2 0 ∷ opaque 3 c ∷ opaque 2 x ∷ [])
-encoded (leaf t (precert h c) x) = joined (be 1 0 ∷ be 1 0 ∷ be 8 t ∷ be 2 1 ∷ h ∷ opaque 3 c ∷ opaque 2 x ∷ [])
-encoded (certificateTimestamp l t x a g) = joined (be 1 0 ∷ l ∷ be 8 t ∷ opaque 2 x ∷ be 2 a ∷ opaque 2 g ∷ [])
-encoded (treeHead t n r) = joined (be 1 0 ∷ be 1 1 ∷ be 8 t ∷ be 8 n ∷ r ∷ [])
+-- the fields one after the other: version v1(0), leaf_type timestamped_entry(0), then the timestamped entry; version v1(0) and the log's id; version v1(0),
+-- signature_type tree_hash(1)
+abbrev pub fieldBytes : Structure → List (List ℕ)
+fieldBytes (leaf t (x509 c) x) = be 1 0 ∷ be 1 0 ∷ be 8 t ∷ be 2 0 ∷ opaque 3 c ∷ opaque 2 x ∷ []
+fieldBytes (leaf t (precert h c) x) = be 1 0 ∷ be 1 0 ∷ be 8 t ∷ be 2 1 ∷ h ∷ opaque 3 c ∷ opaque 2 x ∷ []
+fieldBytes (certificateTimestamp l t x a g) = be 1 0 ∷ l ∷ be 8 t ∷ opaque 2 x ∷ be 2 a ∷ opaque 2 g ∷ []
+fieldBytes (treeHead t n r) = be 1 0 ∷ be 1 1 ∷ be 8 t ∷ be 8 n ∷ r ∷ []
+
+abbrev pub encoded : Structure → List ℕ
+encoded x = joined (fieldBytes x)
 
 -- numbers that their bytes hold, hashes of 32 bytes, vectors within their ranges: <1..2^24-1>, <0..2^16-1>
 abbrev pub FitsEntry : Entry → Type 0

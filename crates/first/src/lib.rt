@@ -8,7 +8,7 @@ mod table;
 mod writer;
 
 ghost use Rattle.first.specs.Claims.{ReadThenWritten, WrittenThenRead, WriterKeeps, RefusedWithin, FieldsWithin};
-ghost use Rattle.first.specs.Claims.{ReadIsEncoded, WrittenIsEncoded, LongFirst, NameNext, RoomLast, FourThere, FiveThere, NoFifteen};
+ghost use Rattle.first.specs.Claims.{ReadIsEncoded, ReadSays, WrittenIsEncoded, ByHand, CutThere, OverThere, LongFirst, NameNext, RoomLast, FourThere, FiveThere, NoFifteen};
 pub use reader::First;
 pub use reader::read;
 pub use table::MERKLE_TREE_LEAF;
@@ -26,7 +26,11 @@ pub fn claims()
     ensures refused_within { λ _. ⌜ RefusedWithin ⌝ }
     ensures fields_within { λ _. ⌜ FieldsWithin ⌝ }
     ensures read_is_encoded { λ _. ⌜ ReadIsEncoded ⌝ }
+    ensures read_says { λ _. ⌜ ReadSays ⌝ }
     ensures written_is_encoded { λ _. ⌜ WrittenIsEncoded ⌝ }
+    ensures by_hand { λ _. ⌜ ByHand ⌝ }
+    ensures cut_there { λ _. ⌜ CutThere ⌝ }
+    ensures over_there { λ _. ⌜ OverThere ⌝ }
     ensures long_first { λ _. ⌜ LongFirst ⌝ }
     ensures name_next { λ _. ⌜ NameNext ⌝ }
     ensures room_last { λ _. ⌜ RoomLast ⌝ }
