@@ -1,4 +1,4 @@
-// What the entries of the crate item call.
+// What the entries of the crate item call, and those of first, which take and answer the same kinds of words.
 use crate::answers::Answer;
 use crate::answers::keep;
 use crate::answers::one;
@@ -7,6 +7,7 @@ use crate::answers::then;
 use crate::answers::words;
 use crate::request::Numbers;
 use crate::request::short;
+use crate::structures;
 use fields::layout::Part;
 use fields::writing::Written;
 use item::Item;
@@ -246,6 +247,8 @@ pub(crate) fn answer<'a>(
         b'a' => any(item::read(a)),
         b'b' => write(n, a, b, c, d, e, f, g, h, lent),
         b'c' => newer(a, b, lent),
-        _ => path_into(n, a, lent),
+        b'd' => path_into(n, a, lent),
+        b'e' => structures::read(n, a),
+        _ => structures::write(n, a, b, c, d, e, f, lent),
     }
 }

@@ -96,21 +96,31 @@ fn numbers(n: Numbers) -> first::Numbers {
     }
 }
 
-pub(crate) fn answer<'a>(
-    entry: u8,
+pub(crate) fn read(n: Numbers, bytes: &[u8]) -> Answer {
+    let which = short(n.b);
+    any(which, first::read(short(n.a), which, bytes))
+}
+
+pub(crate) fn write<'a>(
     n: Numbers,
-    a: &'a [u8],
-    b: &'a [u8],
-    c: &'a [u8],
-    d: &'a [u8],
-    e: &'a [u8],
-    f: &'a [u8],
+    id: &'a [u8],
+    key: &'a [u8],
+    certificate: &'a [u8],
+    extensions: &'a [u8],
+    signature: &'a [u8],
+    root: &'a [u8],
     lent: &mut [u8],
 ) -> Answer {
-    let edition = short(n.a);
-    let which = short(n.b);
-    match entry {
-        b'a' => any(which, first::read(edition, which, a)),
-        _ => written(first::write(edition, which, numbers(n), a, b, c, d, e, f, lent)),
-    }
+    written(first::write(
+        short(n.a),
+        short(n.b),
+        numbers(n),
+        id,
+        key,
+        certificate,
+        extensions,
+        signature,
+        root,
+        lent,
+    ))
 }

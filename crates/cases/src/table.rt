@@ -13,7 +13,6 @@ use crate::request::Numbers;
 use crate::request::Request;
 use crate::request::field;
 use crate::request::numbers_of;
-use crate::structures;
 use crate::trees;
 
 // A line for each entry: its name; a letter for its crate and one for the entry; a letter for each argument (request.rt); a letter for each word of its
@@ -43,8 +42,8 @@ read ia b nnnnnnnnnnnn\n\
 write ib snbbbbbnnnbbnsbl nnnl\n\
 newer ic bb m\n\
 path_into id bnnl nnnl\n\
-first_read fa ssb nnnnnnnnnnnn\n\
-first_write fb sssnnsbbbbbbl nnnl\n\
+first_read ie ssb nnnnnnnnnnnn\n\
+first_write if sssnnsbbbbbbl nnnl\n\
 offer aa finnnhbnnbb nnmnnnp\n\
 page ab finnnhnbb nnmnnnp\n\
 dispute ac bnbnbbbbl nnl\n\
@@ -108,7 +107,6 @@ fn upper<'a>(
     let g = field(r, 6, mem);
     match layer {
         b'c' => carrying::answer(entry, n, a, b, c, d, e, f, g, lent),
-        b'f' => structures::answer(entry, n, a, b, c, d, e, f, lent),
         b'i' => items::answer(entry, n, a, b, c, d, e, f, g, field(r, 7, mem), lent),
         _ => auditing::answer(entry, n, a, b, c, d, e, f, lent),
     }
