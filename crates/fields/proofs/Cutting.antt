@@ -17,9 +17,9 @@ use Rattle.fields.specs.declared.layout.Field.{Field}
 use Rattle.fields.specs.declared.layout.Field.the-variants.{Uint, Vector, OneOf, Fixed}
 use Rattle.fields.specs.declared.layout.FieldRead.the-variants.{Bad}
 use Rattle.fields.specs.Checked.{Checked, good, bad, then}
-use Rattle.fields.specs.Layout.{numberAt, vectorAt, oneOfAt, fixedAt, field, read}
-use Rattle.fields.specs.Write.{Value, uint, bytes, wrap, fill, laid, Filled, join, write}
-use Rattle.fields.specs.Claims.{Typed, AllTyped, one-field, layout, startOf, pieces, CutThere, OverThere}
+use Rattle.fields.specs.Layout.{numberAt, vectorAt, field, read}
+use Rattle.fields.specs.Write.{Value, uint, bytes, wrap, fill, laid, join, write}
+use Rattle.fields.specs.Claims.{Typed, one-field, layout, startOf, pieces, CutThere, OverThere}
 use Rattle.fields.proofs.Answers.{bad-good, same-good}
 use Rattle.fields.proofs.Bodies.{value}
 use Rattle.fields.proofs.Fills.{filled-vector, filled-one-of, filled-fixed, fill-laid}

@@ -133,7 +133,8 @@ pub data Upto (s : List ℕ) : List Field → ℕ → ℕ → Type 0 where
 -- over any layout: left to right, the first bad field decides, with its own number and place, and bytes behind the last field are 3 where they start
 abbrev pub LeftToRight : Type 0
 LeftToRight =
-    ((fs gs : List Field) (f : Field) (s : List ℕ) (at end x y : ℕ) → Upto s fs at end → field f (drop end s) end ≡ Bad x y → read (fs ++ (f ∷ gs)) s at ≡ bad x y)
+    ((fs gs : List Field) (f : Field) (s : List ℕ) (at end x y : ℕ) → Upto s fs at end → field f (drop end s) end ≡ Bad x y
+    → read (fs ++ (f ∷ gs)) s at ≡ bad x y)
     × ((fs : List Field) (s : List ℕ) (at end : ℕ) → Upto s fs at end → end < length s → read fs s at ≡ bad 3 end)
     × ((fs gs : List Filled) (f : Filled) (at x y : ℕ) (b : List ℕ) → write fs at ≡ good b → fill (f .field) (f .value) (at + length b) ≡ bad x y
     → write (fs ++ (f ∷ gs)) at ≡ bad x y)

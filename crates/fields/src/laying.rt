@@ -32,7 +32,8 @@ fn bytes_at<'a>(
 ) -> &'a [u8]
     requires { ⌜ i < 8 ⌝ }
     ensures { λ r. ⌜
-        (let vs = eight (now (a .entry)) (now (b .entry)) (now (c .entry)) (now (d .entry)) (now (e .entry)) (now (f .entry)) (now (g .entry)) (now (h .entry)) in
+        (let vs = eight (now (a .entry)) (now (b .entry)) (now (c .entry)) (now (d .entry))
+        (now (e .entry)) (now (f .entry)) (now (g .entry)) (now (h .entry)) in
         now r ≡ getD vs i []) ⌝ }
 {
     match i {
@@ -63,7 +64,8 @@ fn measure<'a>(
 ) -> Fill
     requires { ⌜ n ≤ 8 ⌝ }
     ensures { λ r. ⌜
-        (let vs = eight (now (a .entry)) (now (b .entry)) (now (c .entry)) (now (d .entry)) (now (e .entry)) (now (f .entry)) (now (g .entry)) (now (h .entry)) in
+        (let vs = eight (now (a .entry)) (now (b .entry)) (now (c .entry)) (now (d .entry))
+        (now (e .entry)) (now (f .entry)) (now (g .entry)) (now (h .entry)) in
         r ≡ reached (ends 0 (writeFields (filledBy (take n layout) numbers vs) 0))) ⌝ }
 {
     let mut at: usize = 0;
@@ -121,7 +123,8 @@ fn put_all<'a>(
         let w = writeFields (filledBy (take n layout) numbers vs) 0 in
         (n ≤ 8) × Good w × (length (written w) ≤ length (now out))) ⌝ }
     ensures { λ _. ⌜
-        (let vs = eight (now (a .entry)) (now (b .entry)) (now (c .entry)) (now (d .entry)) (now (e .entry)) (now (f .entry)) (now (g .entry)) (now (h .entry)) in
+        (let vs = eight (now (a .entry)) (now (b .entry)) (now (c .entry)) (now (d .entry))
+        (now (e .entry)) (now (f .entry)) (now (g .entry)) (now (h .entry)) in
         now (out .exit) ≡ put (now (out .entry)) 0 (written (writeFields (filledBy (take n layout) numbers vs) 0))) ⌝ }
 {
     let mut at: usize = 0;
@@ -153,7 +156,8 @@ pub fn write_layout<'a>(
     out: &mut [u8],
 ) -> Written
     ensures { λ r. ⌜
-        (let vs = eight (now (a .entry)) (now (b .entry)) (now (c .entry)) (now (d .entry)) (now (e .entry)) (now (f .entry)) (now (g .entry)) (now (h .entry)) in
+        (let vs = eight (now (a .entry)) (now (b .entry)) (now (c .entry)) (now (d .entry))
+        (now (e .entry)) (now (f .entry)) (now (g .entry)) (now (h .entry)) in
         let o = effect (now (out .entry)) (within (writeFields (filledBy (take count layout) numbers vs) 0)) in
         (writing r ≡ o .answer) × (now (out .exit) ≡ o .bytes)) ⌝ }
 {

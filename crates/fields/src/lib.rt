@@ -11,7 +11,8 @@ pub mod reading;
 pub mod writing;
 
 ghost use Rattle.fields.specs.Claims.{ReadThenFilled, FilledThenRead, VectorByElements, LayoutAgain, LayoutBack, FieldsWithin, RefusedWithin};
-ghost use Rattle.fields.specs.Claims.{OneOfJudged, FixedAsIs, CutFirst, ReadInARow, LeftToRight, CutThere, OverThere, RoomLast, FoundBefore, CopiedIsJoined, JoinedIsCopied, CopyKeeps};
+ghost use Rattle.fields.specs.Claims.{OneOfJudged, FixedAsIs, CutFirst, ReadInARow, LeftToRight, CutThere, OverThere, RoomLast};
+ghost use Rattle.fields.specs.Claims.{FoundBefore, CopiedIsJoined, JoinedIsCopied, CopyKeeps};
 ghost use Rattle.fields.specs.Extensions.{FineIsExtended, OneList, FifteenIsOutOfOrder, StillRead, RefusedByOrder, FifteenInList};
 ghost use Rattle.fields.specs.Extensions.{ReadByOrder, OrderFirst, RefusedAsRead, LayoutRefusedAsRead};
 

@@ -19,7 +19,7 @@ use Rattle.fields.specs.Claims.{Each}
 use Rattle.fields.specs.Answers.{noPart}
 use Rattle.fields.specs.Extensions.{allLaid}
 use Rattle.fields.proofs.Fills.{filled-vector, filled-one-of, filled-fixed}
-use Rattle.fields.proofs.Laid.{WasFilled, write-laid, TakesIt, laid-write, opaque-takes, allowed-within, Numeric, found-numeric}
+use Rattle.fields.proofs.Laid.{write-laid, TakesIt, laid-write, opaque-takes, allowed-within, Numeric, found-numeric}
 use Rattle.fields.proofs.Resuming.{firsts, all-firsts}
 use Rattle.fields.proofs.Vectors.{one-of-judged, fixed-as-is}
 use Rattle.fields.proofs.Within.{Both, parts-all, read-count}
@@ -32,7 +32,7 @@ use Rattle.first.specs.declared.reader.First.the-variants.{CertificateTi
 use Rattle.first.specs.declared.writer.Numbers.{Numbers}
 use Rattle.first.specs.Structures.{Structure, leaf, certificateTimestamp as timestampOf, treeHead as headOf, x509, precert, encoded, Fits, nameOf}
 use Rattle.first.specs.Table.{layoutOf}
-use Rattle.first.specs.First.{Reading, reading, readFirst, Vectors, vectors, filled, writeFirst}
+use Rattle.first.specs.First.{Reading, reading, readFirst, Vectors, vectors, filled}
 use Rattle.first.specs.Claims.{Taken, Sized, Encodes, IsRead, ReadIsEncoded, asked, Wrote, WrittenIsEncoded}
 use Rattle.first.proofs.Wholes.{LineIs, x509 as isX509, precert as isPrecert, timestamp as isTimestamp, head as isHead, was-read}
 use Rattle.first.proofs.Trips.{written-again, reads-back, was-written}

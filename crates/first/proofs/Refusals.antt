@@ -1,14 +1,13 @@
 -- A version, leaf type, signature type or entry type that is not allowed. Assumes nothing.
-use mathlib.Core.Path.{_≡_, refl, ap, _∙_}
+use mathlib.Core.Path.{_≡_, refl, ap}
 use mathlib.Core.List.{List, [], _∷_, _++_}
 use Prim.Native.Nat.{ℕ, _+_, _^_, _≤_, _<_}
 use native.Mathlib.Omega.{arith}
-use lib.ListN.{length, drop}
+use lib.ListN.{length}
 use borrow.Author.Tests.{le-ltb}
 use Rattle.octets.specs.Limits.{mostItem}
 use Rattle.octets.specs.Numbers.{be}
 use Rattle.octets.specs.declared.number.Width.the-variants.{One, Two}
-use Rattle.octets.proofs.Numbers.{be-length}
 use Rattle.fields.specs.declared.layout.Field.{Field}
 use Rattle.fields.specs.declared.layout.Field.the-variants.{OneOf}
 use Rattle.fields.specs.declared.layout.Part.{Part}
@@ -16,13 +15,12 @@ use Rattle.fields.specs.declared.layout.FieldRead.the-variants.{Found, Bad}
 use Rattle.fields.specs.Checked.{Checked, bad, then}
 use Rattle.fields.specs.Layout.{field, read}
 use Rattle.fields.specs.Write.{uint, bytes, fill, Filled, write}
-use Rattle.fields.specs.Effect.{effect}
 use Rattle.fields.proofs.Laid.{opaque-refuses, read-stops, read-goes, write-stops, write-goes}
 use Rattle.fields.proofs.Vectors.{number-there, one-of-judged, fixed-as-is}
 use Rattle.first.specs.declared.table.Line.{Line}
 use Rattle.first.specs.declared.table.Line.the-variants.{X509Entry, PrecertEntry, CertificateTimestamp, TreeHead}
 use Rattle.first.specs.declared.writer.Numbers.{Numbers}
-use Rattle.first.specs.Table.{version, leafType, entryType, signatureType, timestamp, certificate, layoutOf, lineOf}
+use Rattle.first.specs.Table.{version, leafType, entryType, timestamp, certificate, layoutOf}
 use Rattle.first.specs.First.{structure, entryAt, readFirst, Vectors, filled, writeFirst}
 use Rattle.first.specs.Claims.{Named, FourThere, FiveThere}
 use Rattle.first.proofs.Wholes.{LineIs, x509, precert, timestamp as isTimestamp, head as isHead, lines, is-line}

@@ -1,5 +1,5 @@
 -- What the reader's answer says of the bytes, and where a structure is refused that is cut or has bytes behind it. Assumes nothing.
-use mathlib.Core.Path.{_≡_, refl, ap, sym, subst, _∙_}
+use mathlib.Core.Path.{_≡_, refl, ap, sym, _∙_}
 use mathlib.Core.Logic.{⊎-elim}
 use mathlib.Core.List.{List, [], _∷_, _++_, append-nil}
 use mathlib.Core.Bool.{Bool, true, false, cond}
@@ -10,9 +10,9 @@ use lib.ListN.{length, take, length-append}
 use lib.Dec.{ltb}
 use lib.Seq.{take-append-le, take-append-add, length-take-le}
 use borrow.Author.Tests.{le-ltb, ltb-false}
-use Rattle.octets.specs.Bytes.{Bytes, joined}
+use Rattle.octets.specs.Bytes.{joined}
 use Rattle.octets.specs.Limits.{mostItem}
-use Rattle.octets.specs.Numbers.{be, unbe}
+use Rattle.octets.specs.Numbers.{be}
 use Rattle.octets.proofs.Numbers.{unbe-be}
 use Rattle.octets.proofs.Order.{lt-or-ge}
 use Rattle.fields.specs.declared.layout.Part.{Part}
@@ -31,7 +31,7 @@ use Rattle.first.specs.declared.reader.First.the-variants.{X509Entry as 
 use Rattle.first.specs.declared.reader.First.the-variants.{CertificateTimestamp as certificateTimestamp, TreeHead as treeHead, Refused as refused}
 use Rattle.first.specs.declared.writer.Numbers.{Numbers}
 use Rattle.first.specs.Structures.{Structure, leaf, certificateTimestamp as timestampOf, treeHead as headOf, x509, precert, opaque, fieldBytes, encoded, Fits, nameOf}
-use Rattle.first.specs.Table.{version, leafType, entryType, timestamp, layoutOf, lineOf}
+use Rattle.first.specs.Table.{version, leafType, entryType, timestamp, layoutOf}
 use Rattle.first.specs.First.{structure, reading, entryAt, readFirst, Vectors, vectors, filled}
 use Rattle.first.specs.Claims.{ByHand, CutThere, OverThere, Says, ReadSays}
 use Rattle.first.proofs.Lines.{most-small}

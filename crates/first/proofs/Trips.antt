@@ -1,6 +1,6 @@
 -- Both round trips of whole structures, from the laws over any layout. Assumes nothing.
 use mathlib.Core.Path.{_≡_, refl, ap, sym, subst, _∙_}
-use mathlib.Core.List.{List, [], _∷_, _++_}
+use mathlib.Core.List.{List, [], _∷_}
 use Prim.Native.Nat.{ℕ, _≤_}
 use native.Mathlib.Omega.{arith}
 use lib.ListN.{length, getD, take, drop}
@@ -15,7 +15,7 @@ use Rattle.octets.specs.declared.number.Width.the-variants.{One}
 use Rattle.fields.specs.Checked.{Checked, good, bad, then}
 use Rattle.fields.specs.Layout.{read}
 use Rattle.fields.specs.Write.{numberIn, bytesIn, unwrap, Filled, write, opened, values}
-use Rattle.fields.specs.Effect.{wrote, effect}
+use Rattle.fields.specs.Effect.{wrote}
 use Rattle.fields.specs.Claims.{Typed, AllTyped, no-fields, one-field, layout, Each}
 use Rattle.fields.specs.Answers.{noPart}
 use Rattle.fields.proofs.Answers.{bad-good, good-bad, same-good}
@@ -23,7 +23,7 @@ use Rattle.fields.proofs.Filling.{nothing}
 use Rattle.fields.proofs.Lent.{was-put}
 use Rattle.fields.proofs.Laid.{allowed-within, is-number, one-of-number, read-head}
 use Rattle.fields.proofs.Reaching.{mostAll, write-short}
-use Rattle.fields.proofs.Resuming.{firsts, all-firsts}
+use Rattle.fields.proofs.Resuming.{all-firsts}
 use Rattle.fields.proofs.Rounds.{write-again, read-back}
 use Rattle.fields.proofs.Within.{read-count}
 use Rattle.first.specs.declared.table.Line.{Line}
@@ -32,11 +32,11 @@ use Rattle.first.specs.declared.reader.First.{First}
 use Rattle.first.specs.declared.reader.First.the-variants.{X509Entry as x509Entry, PrecertEntry as precertEntry}
 use Rattle.first.specs.declared.reader.First.the-variants.{CertificateTimestamp as certificateTimestamp, TreeHead as treeHead, Refused as refused}
 use Rattle.first.specs.declared.writer.Numbers.{Numbers}
-use Rattle.first.specs.Table.{version, leafType, entryType, signatureType, timestamp, layoutOf, lineOf}
+use Rattle.first.specs.Table.{version, leafType, entryType, timestamp, layoutOf, lineOf}
 use Rattle.first.specs.First.{Reading, reading, entryAt, readFirst, Vectors, filled, writeFirst}
 use Rattle.first.specs.Claims.{Taken, ReadThenWritten, Sized, WrittenThenRead}
 use Rattle.first.proofs.Lines.{most-small}
-use Rattle.first.proofs.Wholes.{LineIs, x509, precert, timestamp as isTimestamp, head as isHead, lines, is-line, WasRead, was-read, reads}
+use Rattle.first.proofs.Wholes.{LineIs, timestamp as isTimestamp, head as isHead, lines, is-line, WasRead, was-read, reads}
 
 -- a version that was read is 0
 pub version-read : (fs : List Field) (s : List ℕ) (a : Part) (ps : List Part) → read (version ∷ fs) s 0 ≡ good (a ∷ ps) → (a .value ≡ 0) × (read fs s 1 ≡ good ps)

@@ -26,7 +26,8 @@ use Rattle.first.specs.First.{Reading, reading, readFirst, Vectors, writ
 -- lie. Version, leaf type and signature type have one value each, and the writer is not given them.
 abbrev pub Taken : List ℕ → First → Numbers → Vectors → Type 0
 Taken s (x509Entry version leafType timestamp entryType certificate extensions) n t =
-    (n .timestamp ≡ timestamp .value) × (n .«entry_type» ≡ entryType .value) × (t .certificate ≡ bytesAt s certificate) × (t .extensions ≡ bytesAt s extensions)
+    (n .timestamp ≡ timestamp .value) × (n .«entry_type» ≡ entryType .value) × (t .certificate ≡ bytesAt s certificate)
+    × (t .extensions ≡ bytesAt s extensions)
 Taken s (precertEntry version leafType timestamp entryType issuerKeyHash tbsCertificate extensions) n t =
     (n .timestamp ≡ timestamp .value) × (n .«entry_type» ≡ entryType .value) × (t .issuerKeyHash ≡ bytesAt s issuerKeyHash)
     × (t .certificate ≡ bytesAt s tbsCertificate) × (t .extensions ≡ bytesAt s extensions)
@@ -164,7 +165,7 @@ NameNext =
     → ((s : List ℕ) → length s ≤ mostItem → readFirst e w s ≡ bad 4 0)
     × ((n : Numbers) (t : Vectors) (out : List ℕ) → writeFirst e w n t out .answer ≡ bad 4 0)
 
--- the writer asks for the room last: what it refuses otherwise it refuses whatever is lent, and what would be written elsewhere is 9 at 0 where it does not fit
+-- the writer asks for the room last: what it refuses otherwise it refuses whatever is lent, and what is written elsewhere is 9 at 0 where it does not fit
 abbrev pub RoomLast : Type 0
 RoomLast =
     (e w : ℕ) (n : Numbers) (t : Vectors) (out other : List ℕ)

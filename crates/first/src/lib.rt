@@ -8,7 +8,8 @@ mod table;
 mod writer;
 
 ghost use Rattle.first.specs.Claims.{ReadThenWritten, WrittenThenRead, WriterKeeps, RefusedWithin, FieldsWithin};
-ghost use Rattle.first.specs.Claims.{ReadIsEncoded, ReadSays, WrittenIsEncoded, ByHand, CutThere, OverThere, LongFirst, NameNext, RoomLast, FourThere, FiveThere, NoFifteen};
+ghost use Rattle.first.specs.Claims.{ReadIsEncoded, ReadSays, WrittenIsEncoded, ByHand, CutThere, OverThere};
+ghost use Rattle.first.specs.Claims.{LongFirst, NameNext, RoomLast, FourThere, FiveThere, NoFifteen};
 pub use reader::First;
 pub use reader::read;
 pub use table::MERKLE_TREE_LEAF;
