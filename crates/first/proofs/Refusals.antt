@@ -38,7 +38,7 @@ refuses w s y fit n h =
 other-byte : (x b : ℕ) (r : List ℕ) (at : ℕ) → b < 256 → (b ≡ x → ⊥) → field (OneOf One x x) (be 1 b ++ r) at ≡ Bad 4 at
 other-byte x b r at fit h = one-of-judged One x x b r at .1 (λ low high. h (omega arith)) .1 fit
 
-zero-byte : (r : List ℕ) (at : ℕ) → field (OneOf One 0 0) (be 1 0 ++ r) at ≡ Found (record { start = at; len = 1; value = 0 })
+pub zero-byte : (r : List ℕ) (at : ℕ) → field (OneOf One 0 0) (be 1 0 ++ r) at ≡ Found (record { start = at; len = 1; value = 0 })
 zero-byte r at = one-of-judged One 0 0 0 r at .0 (omega arith) (omega arith) .1 (omega arith)
 
 version-stops : (l : Line) (b : ℕ) (r : List ℕ) → b < 256 → (b ≡ 0 → ⊥) → read (layoutOf l) (be 1 b ++ r) 0 ≡ bad 4 0

@@ -6,23 +6,27 @@ use mathlib.Core.Bool.{Bool, true, false, cond}
 use Prim.Native.Nat.{ℕ, _+_, _-_, _^_, _≤_, _<_}
 use native.Mathlib.Omega.{arith}
 use native.Mathlib.Nat.{zero-add}
-use lib.ListN.{length, take, length-append}
+use lib.ListN.{length, take, drop, length-append}
 use lib.Dec.{ltb}
-use lib.Seq.{take-append-le, take-append-add, length-take-le}
+use lib.Seq.{drop-at, take-append-le, take-append-add, length-take-le}
 use borrow.Author.Tests.{le-ltb, ltb-false}
 use Rattle.octets.specs.Bytes.{joined}
 use Rattle.octets.specs.Limits.{mostItem}
+use Rattle.octets.specs.declared.number.Width.the-variants.{Two}
 use Rattle.octets.specs.Numbers.{be}
 use Rattle.octets.proofs.Numbers.{unbe-be}
 use Rattle.octets.proofs.Order.{lt-or-ge}
 use Rattle.fields.specs.declared.layout.Part.{Part}
+use Rattle.fields.specs.declared.layout.Inner.the-variants.{Opaque}
 use Rattle.fields.specs.declared.layout.Field.{Field}
+use Rattle.fields.specs.declared.layout.FieldRead.the-variants.{Bad}
 use Rattle.fields.specs.Checked.{Checked, good, bad, then}
-use Rattle.fields.specs.Layout.{read, bytesAt}
+use Rattle.fields.specs.Layout.{field, read, bytesAt}
 use Rattle.fields.specs.Write.{uint, wrap, Filled, write}
 use Rattle.fields.specs.Claims.{layout, startOf, pieces}
 use Rattle.fields.proofs.Cutting as Cutting
-use Rattle.fields.proofs.Laid.{laid-write, read-in-a-row}
+use Rattle.fields.proofs.Laid.{laid-write, read-in-a-row, read-stops, read-goes}
+use Rattle.fields.proofs.Vectors.{vector-there, number-there, one-of-judged, fixed-as-is}
 use Rattle.fields.proofs.Reaching.{mostAll, write-short}
 use Rattle.first.specs.declared.table.Line.{Line}
 use Rattle.first.specs.declared.table.Line.the-variants.{X509Entry, PrecertEntry, CertificateTimestamp, TreeHead}
@@ -31,12 +35,13 @@ use Rattle.first.specs.declared.reader.First.the-variants.{X509Entry as 
 use Rattle.first.specs.declared.reader.First.the-variants.{CertificateTimestamp as certificateTimestamp, TreeHead as treeHead, Refused as refused}
 use Rattle.first.specs.declared.writer.Numbers.{Numbers}
 use Rattle.first.specs.Structures.{Structure, leaf, certificateTimestamp as timestampOf, treeHead as headOf, x509, precert, opaque, fieldBytes, encoded, Fits, nameOf}
-use Rattle.first.specs.Table.{version, leafType, entryType, timestamp, layoutOf}
+use Rattle.first.specs.Table.{version, leafType, entryType, timestamp, hash, certificate, extensions, layoutOf}
 use Rattle.first.specs.First.{structure, reading, entryAt, readFirst, Vectors, vectors, filled}
-use Rattle.first.specs.Claims.{ByHand, CutThere, OverThere, Says, ReadSays}
+use Rattle.first.specs.Claims.{ByHand, CutThere, OverThere, Says, ReadSays, FiveRead}
 use Rattle.first.proofs.Lines.{most-small}
 use Rattle.first.proofs.Wholes.{LineIs, x509 as isX509, precert as isPrecert, timestamp as isTimestamp, head as isHead, lines, reads, was-read}
 use Rattle.first.proofs.Trips.{leaf-read, version-read, type-read, written-again, all-typed, typed, filled-layout}
+use Rattle.first.proofs.Refusals.{zero-byte}
 use Rattle.first.proofs.Encoding.{structureOf, EntryIs, numbers, entry-is, line-encoded, Shape, shape, zero-takes, entry-takes}
 
 -- some structures, computed
@@ -274,3 +279,35 @@ over-there (leaf time (x509 c) x) b r f h =
 over-there (leaf time (precert i c) x) b r f h = over-read (leaf time (precert i c) x) f b r h (isPrecert refl refl (entry-over time 1 _ (b ∷ r) (omega arith)))
 over-there (timestampOf l time x a g) b r f h = over-read (timestampOf l time x a g) f b r h (isTimestamp refl refl)
 over-there (headOf time m s) b r f h = over-read (headOf time m s) f b r h (isHead refl refl)
+
+-- a certificate without a byte
+empty-refused : (r : List ℕ) (at : ℕ) → field certificate (be 3 0 ++ r) at ≡ Bad 5 at
+unfolding be
+empty-refused r at = vector-there 3 [] r (omega arith) 1 16777215 Opaque at
+
+-- behind the first four fields of a leaf
+behind-four : (time j : ℕ) (gs : List Field) (rest : List ℕ) (x y : ℕ) → time < 2 ^ 64 → j ≤ 1 → read gs (be 1 0 ++ (be 1 0 ++ (be 8 time ++ (be 2 j ++ rest)))) 12 ≡ bad x y → read (version ∷ leafType ∷ timestamp ∷ entryType ∷ gs) (be 1 0 ++ (be 1 0 ++ (be 8 time ++ (be 2 j ++ rest)))) 0 ≡ bad x y
+unfolding be
+behind-four time j gs rest x y ht one h =
+    let s = be 1 0 ++ (be 1 0 ++ (be 8 time ++ (be 2 j ++ rest))) in
+    read-goes version _ s 0 x y _ (zero-byte (be 1 0 ++ (be 8 time ++ (be 2 j ++ rest))) 0)
+    (read-goes leafType _ s 1 x y _ (zero-byte (be 8 time ++ (be 2 j ++ rest)) 1)
+    (read-goes timestamp _ s 2 x y _ (number-there 8 time (be 2 j ++ rest) 2 ht)
+    (read-goes entryType gs s 10 x y _ (one-of-judged Two 0 1 j rest 10 .0 (omega arith) one .1 (omega arith)) h)))
+
+pub five-read : FiveRead
+unfolding be
+five-read time h r ht = (certificate-read, tbs-read)
+  where
+    certificate-read : length (be 1 0 ++ (be 1 0 ++ (be 8 time ++ (be 2 0 ++ (be 3 0 ++ r))))) ≤ mostItem → readFirst 1 1 (be 1 0 ++ (be 1 0 ++ (be 8 time ++ (be 2 0 ++ (be 3 0 ++ r))))) ≡ bad 5 12
+    certificate-read fit =
+        let s = be 1 0 ++ (be 1 0 ++ (be 8 time ++ (be 2 0 ++ (be 3 0 ++ r)))) in
+        reads 1 1 s X509Entry fit (isX509 refl refl (not-one (entryAt s) (entry-there time 0 (be 3 0 ++ r) (omega arith))))
+        ∙ ap (λ (a : Checked (List Part)). then a (structure X509Entry)) (behind-four time 0 (certificate ∷ extensions ∷ []) (be 3 0 ++ r) 5 12 ht (omega arith) (read-stops certificate (extensions ∷ []) s 12 5 12 (empty-refused r 12)))
+
+    tbs-read : length h ≡ 32 → length (be 1 0 ++ (be 1 0 ++ (be 8 time ++ (be 2 1 ++ (h ++ (be 3 0 ++ r)))))) ≤ mostItem → readFirst 1 1 (be 1 0 ++ (be 1 0 ++ (be 8 time ++ (be 2 1 ++ (h ++ (be 3 0 ++ r)))))) ≡ bad 5 44
+    tbs-read l fit =
+        let s = be 1 0 ++ (be 1 0 ++ (be 8 time ++ (be 2 1 ++ (h ++ (be 3 0 ++ r))))) in
+        let d : drop 32 (h ++ (be 3 0 ++ r)) ≡ be 3 0 ++ r = drop-at h (be 3 0 ++ r) 32 l in
+        reads 1 1 s PrecertEntry fit (isPrecert refl refl (entry-there time 1 (h ++ (be 3 0 ++ r)) (omega arith)))
+        ∙ ap (λ (a : Checked (List Part)). then a (structure PrecertEntry)) (behind-four time 1 (hash ∷ certificate ∷ extensions ∷ []) (h ++ (be 3 0 ++ r)) 5 44 ht (omega arith) (read-goes hash (certificate ∷ extensions ∷ []) s 12 5 44 (record { start = 12; len = 32; value = 32 }) (fixed-as-is 32 h (be 3 0 ++ r) 12 .0 l .0) (read-stops certificate (extensions ∷ []) s 44 5 44 (rw d (empty-refused r 44)))))

@@ -194,6 +194,15 @@ FiveThere =
     → (n .«entry_type» ≡ 0 → writeFirst 1 1 n t out .answer ≡ bad 5 12)
     × (n .«entry_type» ≡ 1 → length (t .issuerKeyHash) ≡ 32 → writeFirst 1 1 n t out .answer ≡ bad 5 44))
 
+-- the reader refuses a certificate without a byte with 5 where its length starts, whatever comes behind
+abbrev pub FiveRead : Type 0
+FiveRead =
+    (time : ℕ) (h r : List ℕ) → time < 2 ^ 64
+    → (length (be 1 0 ++ (be 1 0 ++ (be 8 time ++ (be 2 0 ++ (be 3 0 ++ r))))) ≤ mostItem
+    → readFirst 1 1 (be 1 0 ++ (be 1 0 ++ (be 8 time ++ (be 2 0 ++ (be 3 0 ++ r))))) ≡ bad 5 12)
+    × (length h ≡ 32 → length (be 1 0 ++ (be 1 0 ++ (be 8 time ++ (be 2 1 ++ (h ++ (be 3 0 ++ r)))))) ≤ mostItem
+    → readFirst 1 1 (be 1 0 ++ (be 1 0 ++ (be 8 time ++ (be 2 1 ++ (h ++ (be 3 0 ++ r)))))) ≡ bad 5 44)
+
 -- extensions are opaque here: no order is asked
 abbrev pub NoFifteen : Type 0
 NoFifteen = (e w : ℕ) (s : List ℕ) (y : ℕ) → readFirst e w s ≢ bad 15 y

@@ -9,7 +9,7 @@ mod writer;
 
 ghost use Rattle.first.specs.Claims.{ReadThenWritten, WrittenThenRead, WriterKeeps, RefusedWithin, FieldsWithin};
 ghost use Rattle.first.specs.Claims.{ReadIsEncoded, ReadSays, WrittenIsEncoded, ByHand, CutThere, OverThere};
-ghost use Rattle.first.specs.Claims.{LongFirst, NameNext, RoomLast, FourThere, FiveThere, NoFifteen};
+ghost use Rattle.first.specs.Claims.{LongFirst, NameNext, RoomLast, FourThere, FiveThere, FiveRead, NoFifteen};
 pub use reader::First;
 pub use reader::read;
 pub use table::MERKLE_TREE_LEAF;
@@ -37,5 +37,6 @@ pub fn claims()
     ensures room_last { λ _. ⌜ RoomLast ⌝ }
     ensures four_there { λ _. ⌜ FourThere ⌝ }
     ensures five_there { λ _. ⌜ FiveThere ⌝ }
+    ensures five_read { λ _. ⌜ FiveRead ⌝ }
     ensures no_fifteen { λ _. ⌜ NoFifteen ⌝ }
 {}
