@@ -4,7 +4,6 @@ use fields::layout::Inner;
 use fields::reading::MOST_FIELDS;
 use octets::Width;
 ghost use mathlib.Core.Path.{_≡_};
-ghost use Prim.Native.Nat.{_≤_};
 ghost use lib.ListN.{length, take};
 ghost use Rattle.first.specs.Table.{layoutOf, lineOf};
 ghost use Rattle.first.specs.Steps.{known};
