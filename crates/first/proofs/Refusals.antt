@@ -38,7 +38,7 @@ refuses w s y fit n h =
 other-byte : (x b : ℕ) (r : List ℕ) (at : ℕ) → b < 256 → (b ≡ x → ⊥) → field (OneOf One x x) (be 1 b ++ r) at ≡ Bad 4 at
 other-byte x b r at fit h = one-of-judged One x x b r at .1 (λ low high. h (omega arith)) .1 fit
 
-pub zero-byte : (r : List ℕ) (at : ℕ) → field (OneOf One 0 0) (be 1 0 ++ r) at ≡ Found (record { start = at; len = 1; value = 0 })
+zero-byte : (r : List ℕ) (at : ℕ) → field (OneOf One 0 0) (be 1 0 ++ r) at ≡ Found (record { start = at; len = 1; value = 0 })
 zero-byte r at = one-of-judged One 0 0 0 r at .0 (omega arith) (omega arith) .1 (omega arith)
 
 version-stops : (l : Line) (b : ℕ) (r : List ℕ) → b < 256 → (b ≡ 0 → ⊥) → read (layoutOf l) (be 1 b ++ r) 0 ≡ bad 4 0
@@ -53,15 +53,20 @@ unfolding be
 type-stops fs x b r fit h = read-goes version _ (be 1 0 ++ (be 1 b ++ r)) 0 4 1 _ (zero-byte (be 1 b ++ r) 0) (read-stops (OneOf One x x) fs (be 1 0 ++ (be 1 b ++ r)) 1 4 1 (other-byte x b r 1 fit h))
 
 -- behind version, leaf type and timestamp
+pub behind-three : (time : ℕ) (gs : List Field) (rest : List ℕ) (x y : ℕ) → time < 2 ^ 64 → read gs (be 1 0 ++ (be 1 0 ++ (be 8 time ++ rest))) 10 ≡ bad x y → read (version ∷ leafType ∷ timestamp ∷ gs) (be 1 0 ++ (be 1 0 ++ (be 8 time ++ rest))) 0 ≡ bad x y
+unfolding be
+behind-three time gs rest x y ht h =
+    let s = be 1 0 ++ (be 1 0 ++ (be 8 time ++ rest)) in
+    read-goes version _ s 0 x y _ (zero-byte (be 1 0 ++ (be 8 time ++ rest)) 0)
+    (read-goes leafType _ s 1 x y _ (zero-byte (be 8 time ++ rest) 1)
+    (read-goes timestamp gs s 2 x y _ (number-there 8 time rest 2 ht) h))
+
 entry-stops : (fs : List Field) (time k : ℕ) (r : List ℕ) → time < 2 ^ 64 → 1 < k → k < 2 ^ 16 → read (version ∷ leafType ∷ timestamp ∷ entryType ∷ fs) (be 1 0 ++ (be 1 0 ++ (be 8 time ++ (be 2 k ++ r)))) 0 ≡ bad 4 10
 unfolding be
 entry-stops fs time k r ht low fit =
     let s = be 1 0 ++ (be 1 0 ++ (be 8 time ++ (be 2 k ++ r))) in
     let e : field entryType (be 2 k ++ r) 10 ≡ Bad 4 10 = one-of-judged Two 0 1 k r 10 .1 (λ u v. omega arith) .1 fit in
-    read-goes version _ s 0 4 10 _ (zero-byte (be 1 0 ++ (be 8 time ++ (be 2 k ++ r))) 0)
-    (read-goes leafType _ s 1 4 10 _ (zero-byte (be 8 time ++ (be 2 k ++ r)) 1)
-    (read-goes timestamp _ s 2 4 10 _ (number-there 8 time (be 2 k ++ r) 2 ht)
-    (read-stops entryType fs s 10 4 10 e)))
+    behind-three time (entryType ∷ fs) (be 2 k ++ r) 4 10 ht (read-stops entryType fs s 10 4 10 e)
 
 -- what the fields of a line refuse, the writer does
 line-refuses : (w x y : ℕ) (l : Line) (n : Numbers) (t : Vectors) (out : List ℕ) → LineIs 1 w (n .«entry_type») l → write (filled n t l) 0 ≡ bad x y → writeFirst 1 w n t out .answer ≡ bad x y
@@ -69,23 +74,25 @@ unfolding writeFirst
 line-refuses w x y l n t out i h = rw (is-line 1 w (n .«entry_type») l i, h)
 
 module _ (n : Numbers) (t : Vectors) (out : List ℕ) where
+  -- behind version, leaf type and timestamp
+  written-three : (fs : List Filled) (x y : ℕ) → write fs 10 ≡ bad x y → write (record { field = version; value = uint 0 } ∷ record { field = leafType; value = uint 0 } ∷ record { field = timestamp; value = uint (n .timestamp) } ∷ fs) 0 ≡ bad x y
+  unfolding be
+  written-three fs x y e =
+      write-goes _ _ 0 x y (be 1 0) (zero-takes 0)
+      (write-goes _ _ 1 x y (be 1 0) (zero-takes 1)
+      (write-goes _ _ 2 x y (be 8 (n .timestamp)) refl e))
+
   entry-refused : 1 < n .«entry_type» → writeFirst 1 1 n t out .answer ≡ bad 4 10
   unfolding be
   entry-refused low =
       line-refuses 1 4 10 X509Entry n t out (x509 refl refl (λ z. omega arith))
-      (write-goes _ _ 0 4 10 (be 1 0) (zero-takes 0)
-      (write-goes _ _ 1 4 10 (be 1 0) (zero-takes 1)
-      (write-goes _ _ 2 4 10 (be 8 (n .timestamp)) refl
-      (write-stops _ _ 10 4 10 (one-of-judged Two 0 1 (n .«entry_type») [] 10 .1 (λ u v. omega arith) .0)))))
+      (written-three _ 4 10 (write-stops _ _ 10 4 10 (one-of-judged Two 0 1 (n .«entry_type») [] 10 .1 (λ u v. omega arith) .0)))
 
   -- behind the entry type
   behind : (fs : List Filled) (k x y : ℕ) → k ≤ 1 → write fs 12 ≡ bad x y → write (record { field = version; value = uint 0 } ∷ record { field = leafType; value = uint 0 } ∷ record { field = timestamp; value = uint (n .timestamp) } ∷ record { field = entryType; value = uint k } ∷ fs) 0 ≡ bad x y
   unfolding be
   behind fs k x y h e =
-      write-goes _ _ 0 x y (be 1 0) (zero-takes 0)
-      (write-goes _ _ 1 x y (be 1 0) (zero-takes 1)
-      (write-goes _ _ 2 x y (be 8 (n .timestamp)) refl
-      (write-goes _ _ 10 x y (be 2 k) (entry-takes k h 10) e)))
+      written-three _ x y (write-goes _ _ 10 x y (be 2 k) (entry-takes k h 10) e)
 
   log-refused : (length (t .logId) ≡ 32 → ⊥) → writeFirst 1 2 n t out .answer ≡ bad 5 1
   unfolding be

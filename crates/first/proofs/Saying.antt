@@ -26,7 +26,7 @@ use Rattle.fields.specs.Write.{uint, wrap, Filled, write}
 use Rattle.fields.specs.Claims.{layout, startOf, pieces}
 use Rattle.fields.proofs.Cutting as Cutting
 use Rattle.fields.proofs.Laid.{laid-write, read-in-a-row, read-stops, read-goes}
-use Rattle.fields.proofs.Vectors.{vector-there, number-there, one-of-judged, fixed-as-is}
+use Rattle.fields.proofs.Vectors.{vector-there, one-of-judged, fixed-as-is}
 use Rattle.fields.proofs.Reaching.{mostAll, write-short}
 use Rattle.first.specs.declared.table.Line.{Line}
 use Rattle.first.specs.declared.table.Line.the-variants.{X509Entry, PrecertEntry, CertificateTimestamp, TreeHead}
@@ -41,7 +41,7 @@ use Rattle.first.specs.Claims.{ByHand, CutThere, OverThere, Says, ReadSa
 use Rattle.first.proofs.Lines.{most-small}
 use Rattle.first.proofs.Wholes.{LineIs, x509 as isX509, precert as isPrecert, timestamp as isTimestamp, head as isHead, lines, reads, was-read}
 use Rattle.first.proofs.Trips.{leaf-read, version-read, type-read, written-again, all-typed, typed, filled-layout}
-use Rattle.first.proofs.Refusals.{zero-byte}
+use Rattle.first.proofs.Refusals.{behind-three}
 use Rattle.first.proofs.Encoding.{structureOf, EntryIs, numbers, entry-is, line-encoded, Shape, shape, zero-takes, entry-takes}
 
 -- some structures, computed
@@ -290,10 +290,7 @@ behind-four : (time j : ℕ) (gs : List Field) (rest : List ℕ) (x y : ℕ) →
 unfolding be
 behind-four time j gs rest x y ht one h =
     let s = be 1 0 ++ (be 1 0 ++ (be 8 time ++ (be 2 j ++ rest))) in
-    read-goes version _ s 0 x y _ (zero-byte (be 1 0 ++ (be 8 time ++ (be 2 j ++ rest))) 0)
-    (read-goes leafType _ s 1 x y _ (zero-byte (be 8 time ++ (be 2 j ++ rest)) 1)
-    (read-goes timestamp _ s 2 x y _ (number-there 8 time (be 2 j ++ rest) 2 ht)
-    (read-goes entryType gs s 10 x y _ (one-of-judged Two 0 1 j rest 10 .0 (omega arith) one .1 (omega arith)) h)))
+    behind-three time (entryType ∷ gs) (be 2 j ++ rest) x y ht (read-goes entryType gs s 10 x y _ (one-of-judged Two 0 1 j rest 10 .0 (omega arith) one .1 (omega arith)) h)
 
 pub five-read : FiveRead
 unfolding be
