@@ -1,20 +1,25 @@
-//! Builds plain.c with gcc -O3 and links it. The proved library comes with the
-//! crate `link`. MTA_BEFORE names the folder of an earlier libmta.a: its verdicts
-//! are linked too, under other names.
+//! Builds plain.c with gcc -O3, once as it is and once without the vectoriser, and
+//! links both. The proved library comes with the crate `link`. MTA_BEFORE names the
+//! folder of an earlier libmta.a: what it is timed by is linked too, under other names.
 
 use std::path::PathBuf;
 use std::process::Command;
 
+/// The entries of the earlier library that are timed.
+const BEFORE: [&str; 6] = ["inclusion", "consistency", "digest", "leaf", "node", "step"];
+
 fn main() {
     let here = PathBuf::from(std::env::var("CARGO_MANIFEST_DIR").unwrap());
     let out = PathBuf::from(std::env::var("OUT_DIR").unwrap());
-    let object = out.join("plain.o");
     let library = out.join("libplain.a");
-
-    run(Command::new("gcc").args(["-std=c11", "-Wall", "-Wextra", "-O3", "-fPIC", "-c", "-o"]).arg(&object).arg(here.join("plain.c")));
     let _ = std::fs::remove_file(&library);
-    run(Command::new("ar").arg("rcs").arg(&library).arg(&object));
-
+    for (object, more) in [("plain.o", &[][..]), ("scalar.o", &["-fno-tree-vectorize", "-DSCALAR"][..])] {
+        let object = out.join(object);
+        let mut gcc = Command::new("gcc");
+        gcc.args(["-std=c11", "-Wall", "-Wextra", "-O3", "-fPIC"]).args(more).args(["-c", "-o"]);
+        run(gcc.arg(&object).arg(here.join("plain.c")));
+        run(Command::new("ar").arg("rcs").arg(&library).arg(&object));
+    }
     println!("cargo:rustc-link-search=native={}", out.display());
     println!("cargo:rustc-link-lib=static=plain");
     println!("cargo:rerun-if-changed=plain.c");
@@ -24,8 +29,8 @@ fn main() {
     if let Some(folder) = std::env::var_os("MTA_BEFORE") {
         let earlier = PathBuf::from(folder).join("libmta.a");
         let mut rename = Command::new("objcopy");
-        for verdict in ["inclusion", "consistency"] {
-            rename.arg(format!("--redefine-sym=mta_{verdict}=before_{verdict}")).arg(format!("--keep-global-symbol=before_{verdict}"));
+        for entry in BEFORE {
+            rename.arg(format!("--redefine-sym=mta_{entry}=before_{entry}")).arg(format!("--keep-global-symbol=before_{entry}"));
         }
         run(rename.arg(&earlier).arg(out.join("libbefore.a")));
         println!("cargo:rustc-link-lib=static=before");

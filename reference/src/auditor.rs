@@ -1,6 +1,7 @@
 //! The auditor: head offers and page calls over one record, and the dispute
 //! about two pages accepted at one place.
 
+use crate::algorithm::{Hashes, REFUSED};
 use crate::carry::{carry, compare, Carried, Compared, PAIR};
 use crate::item::LONGEST_ITEM;
 use crate::tree::{hashes, leaf_hash, Hash, HashFunction};
@@ -8,6 +9,8 @@ use crate::verdict::{self, Consistency, Inclusion};
 
 #[derive(Clone, Debug, PartialEq, Eq)]
 pub struct Head {
+    /// The number of the hash by which the first head was accepted.
+    pub algorithm: u64,
     pub log_id: Vec<u8>,
     pub timestamp: u64,
     pub size: u64,
@@ -42,18 +45,31 @@ pub enum Call {
     Page(PageCall),
 }
 
+/// Calls, each by the same number.
+pub fn under(algorithm: u64, calls: Vec<Call>) -> Vec<(u64, Call)> {
+    calls.into_iter().map(|call| (algorithm, call)).collect()
+}
+
+/// The hash of a call's number, or 16: where no hash has it, and where the record holds
+/// a head and with it another number.
+fn hash(hashes: Hashes, algorithm: u64, record: &Record) -> Result<HashFunction, u64> {
+    let is_held = record.as_ref().is_none_or(|held| held.algorithm == algorithm);
+    hashes(algorithm).filter(|_| is_held).ok_or(REFUSED)
+}
+
 /// The number and the record after the offer.
-pub fn offer(h: HashFunction, record: &Record, offer: &Offer) -> (u64, Record) {
-    match judge_offer(h, record, offer) {
+pub fn offer(hashes: Hashes, algorithm: u64, record: &Record, offer: &Offer) -> (u64, Record) {
+    match judge_offer(hashes, algorithm, record, offer) {
         Ok(head) => (0, Some(head)),
         Err(number) => (number, record.clone()),
     }
 }
 
-/// An empty record checks 5, 10, 6, 7; otherwise 5, 10, 11, 6, 12, 13, 7, 8. One
+/// 16 before all else; then an empty record checks 5, 10, 6, 7, another 5, 10, 11, 6, 12, 13, 7, 8. One
 /// millisecond has one head: 12 is given for an earlier timestamp, and for an equal
 /// one where size or root is another than the held. So 13 is left for a later one.
-fn judge_offer(h: HashFunction, record: &Record, offer: &Offer) -> Result<Head, u64> {
+fn judge_offer(hashes_by: Hashes, algorithm: u64, record: &Record, offer: &Offer) -> Result<Head, u64> {
+    let h = hash(hashes_by, algorithm, record)?;
     let root: Hash = offer.root[..].try_into().map_err(|_| 5u64)?;
     if !(2..=LONGEST_ID).contains(&offer.log_id.len()) {
         return Err(5);
@@ -93,11 +109,15 @@ fn judge_offer(h: HashFunction, record: &Record, offer: &Offer) -> Result<Head, 
             }
         }
     }
-    Ok(Head { log_id: offer.log_id.clone(), timestamp: offer.timestamp, size: offer.size, root })
+    Ok(Head { algorithm, log_id: offer.log_id.clone(), timestamp: offer.timestamp, size: offer.size, root })
 }
 
-/// 14 if the record is empty, 1 if the page is too long, then the inclusion verdict.
-pub fn page(h: HashFunction, record: &Record, call: &PageCall) -> u64 {
+/// 16, then 14 if the record is empty, 1 if the page is too long, then the inclusion verdict.
+pub fn page(hashes: Hashes, algorithm: u64, record: &Record, call: &PageCall) -> u64 {
+    let h = match hash(hashes, algorithm, record) {
+        Ok(h) => h,
+        Err(number) => return number,
+    };
     let Some(held) = record else { return 14 };
     if call.page.len() > LONGEST_ITEM {
         return 1;
@@ -106,14 +126,15 @@ pub fn page(h: HashFunction, record: &Record, call: &PageCall) -> u64 {
     verdict::inclusion(h, &Inclusion { leaf: &leaf, place: call.place, size: held.size, root: &held.root, path: &call.path })
 }
 
-/// A list of calls from the empty record: each call's number, and the record after it.
-pub fn run(h: HashFunction, calls: &[Call]) -> Vec<(u64, Record)> {
+/// A list of calls from the empty record, each with the number of its hash: each call's
+/// number, and the record after it.
+pub fn run(hashes: Hashes, calls: &[(u64, Call)]) -> Vec<(u64, Record)> {
     let mut record = None;
     let mut answers = Vec::new();
-    for call in calls {
+    for (algorithm, call) in calls {
         let (number, after) = match call {
-            Call::Offer(one) => offer(h, &record, one),
-            Call::Page(one) => (page(h, &record, one), record.clone()),
+            Call::Offer(one) => offer(hashes, *algorithm, &record, one),
+            Call::Page(one) => (page(hashes, *algorithm, &record, one), record.clone()),
         };
         answers.push((number, after.clone()));
         record = after;
@@ -126,6 +147,8 @@ pub fn run(h: HashFunction, calls: &[Call]) -> Vec<(u64, Record)> {
 #[derive(Clone, Debug, PartialEq, Eq)]
 pub struct Stored {
     pub held: bool,
+    /// Not looked at where no head is held.
+    pub algorithm: u64,
     pub id: [u8; LONGEST_ID],
     /// How many bytes of `id` are the log id; above its length, all of them.
     pub id_length: u64,
@@ -135,14 +158,15 @@ pub struct Stored {
 }
 
 impl Stored {
-    pub const EMPTY: Stored = Stored { held: false, id: [0; LONGEST_ID], id_length: 0, timestamp: 0, size: 0, root: [0; 32] };
+    pub const EMPTY: Stored = Stored { held: false, algorithm: 0, id: [0; LONGEST_ID], id_length: 0, timestamp: 0, size: 0, root: [0; 32] };
 
     pub fn head(&self) -> Record {
         if !self.held {
             return None;
         }
         let length = self.id_length.min(LONGEST_ID as u64) as usize;
-        Some(Head { log_id: self.id[..length].to_vec(), timestamp: self.timestamp, size: self.size, root: self.root })
+        let log_id = self.id[..length].to_vec();
+        Some(Head { algorithm: self.algorithm, log_id, timestamp: self.timestamp, size: self.size, root: self.root })
     }
 
     /// An accepted head; zeros follow its log id.
@@ -150,19 +174,19 @@ impl Stored {
         let mut id = [0; LONGEST_ID];
         id[..head.log_id.len()].copy_from_slice(&head.log_id);
         let id_length = head.log_id.len() as u64;
-        Stored { held: true, id, id_length, timestamp: head.timestamp, size: head.size, root: head.root }
+        Stored { held: true, algorithm: head.algorithm, id, id_length, timestamp: head.timestamp, size: head.size, root: head.root }
     }
 
     /// The number and the record after an offer; where it is refused, the very record.
-    pub fn offer(&self, h: HashFunction, one: &Offer) -> (u64, Stored) {
-        match offer(h, &self.head(), one) {
+    pub fn offer(&self, hashes: Hashes, algorithm: u64, one: &Offer) -> (u64, Stored) {
+        match offer(hashes, algorithm, &self.head(), one) {
             (0, after) => (0, Stored::of(&after.expect("an accepted head"))),
             (number, _) => (number, self.clone()),
         }
     }
 
-    pub fn page(&self, h: HashFunction, call: &PageCall) -> u64 {
-        page(h, &self.head(), call)
+    pub fn page(&self, hashes: Hashes, algorithm: u64, call: &PageCall) -> u64 {
+        page(hashes, algorithm, &self.head(), call)
     }
 }
 
@@ -241,10 +265,12 @@ fn next_head<'a>(heads: &mut &'a [u8]) -> Option<(u64, &'a [u8], &'a [u8])> {
     Some((size, root, take(32 * count as usize)?))
 }
 
-/// Refused with 1 for either page, the first proof's number, 2 for each head in
-/// turn that is cut short or what carrying refuses, then what comparing refuses.
-pub fn dispute(h: HashFunction, one: &Dispute, pair: &mut [u8]) -> Settled {
-    settle(h, one, pair).unwrap_or_else(Settled::Refused)
+/// Refused with 16 for a number that no hash has, 1 for either page, the first proof's
+/// number, 2 for each head in turn that is cut short or what carrying refuses, then what
+/// comparing refuses. The number is the calls', and nothing comes from a record.
+pub fn dispute(hashes: Hashes, algorithm: u64, one: &Dispute, pair: &mut [u8]) -> Settled {
+    let settled = hashes(algorithm).ok_or(REFUSED).and_then(|h| settle(h, one, pair));
+    settled.unwrap_or_else(Settled::Refused)
 }
 
 fn settle(h: HashFunction, one: &Dispute, pair: &mut [u8]) -> Result<Settled, u64> {
@@ -286,11 +312,12 @@ pub fn strings(one: &Dispute, settled: Settled, pair: &[u8]) -> Option<(Vec<u8>,
     }
 }
 
-/// The disputes of a list of calls: each two accepted page calls at one place,
-/// from the calls' arguments and which were accepted, and nothing from the record.
-pub fn disputes(calls: &[Call], accepted: &[bool]) -> Vec<Dispute> {
+/// The disputes of a list of calls, each with the first page call's number: each two accepted
+/// page calls at one place, from the calls' arguments and which were accepted, and nothing from
+/// the record.
+pub fn disputes(calls: &[(u64, Call)], accepted: &[bool]) -> Vec<(u64, Dispute)> {
     let heads = |from: usize, to: usize| {
-        calls[from..to].iter().zip(&accepted[from..to]).filter_map(|(call, accepted)| match call {
+        calls[from..to].iter().zip(&accepted[from..to]).filter_map(|((_, call), accepted)| match call {
             Call::Offer(offer) if *accepted => Some(offer),
             _ => None,
         })
@@ -298,21 +325,22 @@ pub fn disputes(calls: &[Call], accepted: &[bool]) -> Vec<Dispute> {
     let mut all = Vec::new();
     for second in 0..calls.len() {
         for first in 0..second {
-            let (Call::Page(one), Call::Page(two)) = (&calls[first], &calls[second]) else { continue };
+            let ((algorithm, Call::Page(one)), (_, Call::Page(two))) = (&calls[first], &calls[second]) else { continue };
             if !accepted[first] || !accepted[second] || one.place != two.place {
                 continue;
             }
             let held = heads(0, first).next_back().expect("an accepted page has a head");
             let mut joined = Vec::new();
             heads(first, second).for_each(|head| join_head(head.size, &head.root, &head.path, &mut joined));
-            all.push(Dispute {
+            let one = Dispute {
                 first: one.clone(),
                 size: held.size,
                 root: held.root.clone(),
                 heads: joined,
                 second_page: two.page.clone(),
                 second_path: two.path.clone(),
-            });
+            };
+            all.push((*algorithm, one));
         }
     }
     all
@@ -321,14 +349,15 @@ pub fn disputes(calls: &[Call], accepted: &[bool]) -> Vec<Dispute> {
 #[cfg(test)]
 mod tests {
     use super::*;
-    use crate::carry::weak;
+    use crate::algorithm::{self, other, weak, KNOWN, SHA256, UNKNOWN};
     use crate::random::Random;
-    use crate::servers::{Kind, Server, KINDS};
+    use crate::servers::{with_strays, Kind, Server, KINDS};
     use crate::sha256::{digest, node};
     use crate::tree::{self, LARGEST_SIZE};
 
+    /// By SHA-256, as most of what follows.
     fn head(size: u64, timestamp: u64, root: Hash) -> Record {
-        Some(Head { log_id: b"log".to_vec(), timestamp, size, root })
+        Some(Head { algorithm: SHA256, log_id: b"log".to_vec(), timestamp, size, root })
     }
 
     fn an_offer(size: u64, timestamp: u64, root: Hash, path: &[u8]) -> Offer {
@@ -338,11 +367,11 @@ mod tests {
     #[test]
     fn empty_record() {
         let good = an_offer(9, 5, [1; 32], &[]);
-        assert_eq!(offer(digest, &None, &good), (0, head(9, 5, [1; 32])));
+        assert_eq!(offer(algorithm::hash, SHA256, &None, &good), (0, head(9, 5, [1; 32])));
         let bad = |change: fn(&mut Offer)| {
             let mut offered = good.clone();
             change(&mut offered);
-            let (number, record) = offer(digest, &None, &offered);
+            let (number, record) = offer(algorithm::hash, SHA256, &None, &offered);
             assert_eq!(record, None);
             number
         };
@@ -354,9 +383,9 @@ mod tests {
         assert_eq!(bad(|o| (o.size = 0, o.path.extend([0; 32])).1), 6);
         assert_eq!(bad(|o| o.size = 0), 6);
         assert_eq!(bad(|o| o.path.extend([0; 32])), 7);
-        assert_eq!(page(digest, &None, &PageCall { place: 0, page: vec![0; LONGEST_ITEM + 1], path: vec![] }), 14);
+        assert_eq!(page(algorithm::hash, SHA256, &None, &PageCall { place: 0, page: vec![0; LONGEST_ITEM + 1], path: vec![] }), 14);
         for size in [1, 1 << 32, (1 << 32) + 1, 1 << 63, LARGEST_SIZE - 1, LARGEST_SIZE] {
-            assert_eq!(offer(digest, &None, &an_offer(size, 5, [1; 32], &[])), (0, head(size, 5, [1; 32])));
+            assert_eq!(offer(algorithm::hash, SHA256, &None, &an_offer(size, 5, [1; 32], &[])), (0, head(size, 5, [1; 32])));
         }
     }
 
@@ -365,24 +394,24 @@ mod tests {
     fn large_sizes() {
         let (a, b) = ([1; 32], [2; 32]);
         assert_eq!(
-            offer(digest, &head(1 << 32, 5, a), &an_offer((1 << 32) + 1, 6, node(&a, &b), &b)),
+            offer(algorithm::hash, SHA256, &head(1 << 32, 5, a), &an_offer((1 << 32) + 1, 6, node(&a, &b), &b)),
             (0, head((1 << 32) + 1, 6, node(&a, &b)))
         );
         // The sizes are alike in their lower 32 bits, or in all but the highest one.
         for (held, size) in [(1, (1 << 32) + 1), (1, (1 << 63) + 1), (LARGEST_SIZE >> 1, LARGEST_SIZE)] {
             let held = head(held, 5, a);
-            assert_eq!(offer(digest, &held, &an_offer(size, 5, a, &[])), (12, held.clone()));
-            assert_eq!(offer(digest, &held, &an_offer(size, 6, a, &[])), (7, held.clone()));
+            assert_eq!(offer(algorithm::hash, SHA256, &held, &an_offer(size, 5, a, &[])), (12, held.clone()));
+            assert_eq!(offer(algorithm::hash, SHA256, &held, &an_offer(size, 6, a, &[])), (7, held.clone()));
         }
         let held = head(LARGEST_SIZE, 5, a);
-        assert_eq!(offer(digest, &held, &an_offer(LARGEST_SIZE, 5, a, &[])), (0, held.clone()));
-        assert_eq!(offer(digest, &held, &an_offer(LARGEST_SIZE, 5, b, &[])), (12, held.clone()));
-        assert_eq!(offer(digest, &held, &an_offer(LARGEST_SIZE, 6, a, &[])), (0, head(LARGEST_SIZE, 6, a)));
-        assert_eq!(offer(digest, &held, &an_offer(LARGEST_SIZE - 1, 6, a, &[])), (6, held.clone()));
-        assert_eq!(offer(digest, &held, &an_offer(LARGEST_SIZE, 6, b, &[])), (13, held.clone()));
-        assert_eq!(page(digest, &held, &PageCall { place: LARGEST_SIZE, page: vec![], path: vec![0; 64 * 32] }), 6);
-        assert_eq!(page(digest, &held, &PageCall { place: LARGEST_SIZE - 1, page: vec![], path: vec![0; 64 * 32] }), 7);
-        assert_eq!(page(digest, &held, &PageCall { place: LARGEST_SIZE - 1, page: vec![], path: vec![0; 63 * 32] }), 8);
+        assert_eq!(offer(algorithm::hash, SHA256, &held, &an_offer(LARGEST_SIZE, 5, a, &[])), (0, held.clone()));
+        assert_eq!(offer(algorithm::hash, SHA256, &held, &an_offer(LARGEST_SIZE, 5, b, &[])), (12, held.clone()));
+        assert_eq!(offer(algorithm::hash, SHA256, &held, &an_offer(LARGEST_SIZE, 6, a, &[])), (0, head(LARGEST_SIZE, 6, a)));
+        assert_eq!(offer(algorithm::hash, SHA256, &held, &an_offer(LARGEST_SIZE - 1, 6, a, &[])), (6, held.clone()));
+        assert_eq!(offer(algorithm::hash, SHA256, &held, &an_offer(LARGEST_SIZE, 6, b, &[])), (13, held.clone()));
+        assert_eq!(page(algorithm::hash, SHA256, &held, &PageCall { place: LARGEST_SIZE, page: vec![], path: vec![0; 64 * 32] }), 6);
+        assert_eq!(page(algorithm::hash, SHA256, &held, &PageCall { place: LARGEST_SIZE - 1, page: vec![], path: vec![0; 64 * 32] }), 7);
+        assert_eq!(page(algorithm::hash, SHA256, &held, &PageCall { place: LARGEST_SIZE - 1, page: vec![], path: vec![0; 63 * 32] }), 8);
 
         // A path of one node that becomes one of 64.
         let leaf = leaf_hash(digest, b"page");
@@ -399,8 +428,8 @@ mod tests {
             second_page: b"page".to_vec(),
             second_path: [&b[..], &step].concat(),
         };
-        assert_eq!(dispute(digest, &one, &mut [0; 130]), Settled::Same);
-        assert_eq!(dispute(digest, &Dispute { second_path: step, ..one }, &mut [0; 130]), Settled::Refused(7));
+        assert_eq!(dispute(algorithm::hash, SHA256, &one, &mut [0; 130]), Settled::Same);
+        assert_eq!(dispute(algorithm::hash, SHA256, &Dispute { second_path: step, ..one }, &mut [0; 130]), Settled::Refused(7));
     }
 
     #[test]
@@ -444,14 +473,14 @@ mod tests {
         let (two, three) = (tree::root(digest, &leaves[..2]), tree::root(digest, &leaves));
         let held = head(2, 5, two);
         let good = an_offer(3, 6, three, &leaves[2]);
-        assert_eq!(offer(digest, &held, &good), (0, head(3, 6, three)));
+        assert_eq!(offer(algorithm::hash, SHA256, &held, &good), (0, head(3, 6, three)));
         // The same head again, and with a later timestamp.
-        assert_eq!(offer(digest, &held, &an_offer(2, 5, two, &[])), (0, held.clone()));
-        assert_eq!(offer(digest, &held, &an_offer(2, 6, two, &[])), (0, head(2, 6, two)));
+        assert_eq!(offer(algorithm::hash, SHA256, &held, &an_offer(2, 5, two, &[])), (0, held.clone()));
+        assert_eq!(offer(algorithm::hash, SHA256, &held, &an_offer(2, 6, two, &[])), (0, head(2, 6, two)));
         let bad = |change: fn(&mut Offer)| {
             let mut offered = good.clone();
             change(&mut offered);
-            let (number, record) = offer(digest, &held, &offered);
+            let (number, record) = offer(algorithm::hash, SHA256, &held, &offered);
             assert_eq!(record, held);
             number
         };
@@ -471,7 +500,7 @@ mod tests {
         assert_eq!(bad(|o| o.size = 2), 13);
         assert_eq!(bad(|o| o.path.extend([0; 32])), 7);
         assert_eq!(bad(|o| o.path[3] ^= 1), 8);
-        assert_eq!(offer(digest, &held, &an_offer(2, 5, two, &[0; 32])), (7, held.clone()));
+        assert_eq!(offer(algorithm::hash, SHA256, &held, &an_offer(2, 5, two, &[0; 32])), (7, held.clone()));
     }
 
     /// The cases by hand of request 4, each alone on one record: timestamp, size, root
@@ -513,24 +542,24 @@ mod tests {
             (6, 2, b, &two[..33], 10),
             (5, 2, a, &two[..33], 10),
         ] {
-            let (number, after) = offer(digest, &held, &an_offer(size, timestamp, root, path));
+            let (number, after) = offer(algorithm::hash, SHA256, &held, &an_offer(size, timestamp, root, path));
             assert_eq!(number, expected, "{timestamp} {size} {root:?} {}", path.len());
             assert_eq!(after, if expected == 0 { head(size, timestamp, root) } else { held.clone() });
         }
         // An empty record has no 12, and another log or a bad root comes first.
-        assert_eq!(offer(digest, &None, &an_offer(2, 0, b, none)), (0, head(2, 0, b)));
+        assert_eq!(offer(algorithm::hash, SHA256, &None, &an_offer(2, 0, b, none)), (0, head(2, 0, b)));
         for timestamp in [4, 5] {
             let one = an_offer(3, timestamp, b, right);
-            assert_eq!(offer(digest, &held, &Offer { log_id: b"lag".to_vec(), ..one.clone() }), (11, held.clone()));
-            assert_eq!(offer(digest, &held, &Offer { root: vec![0; 31], ..one }), (5, held.clone()));
+            assert_eq!(offer(algorithm::hash, SHA256, &held, &Offer { log_id: b"lag".to_vec(), ..one.clone() }), (11, held.clone()));
+            assert_eq!(offer(algorithm::hash, SHA256, &held, &Offer { root: vec![0; 31], ..one }), (5, held.clone()));
         }
         // No timestamp is before 0, and none after the last.
         for (timestamp, other) in [(0, u64::MAX), (u64::MAX, 0), (1 << 63, (1 << 63) - 1), ((1 << 32) - 1, 1 << 32)] {
             let held = head(2, timestamp, a);
-            assert_eq!(offer(digest, &held, &an_offer(2, timestamp, a, none)), (0, held.clone()));
-            assert_eq!(offer(digest, &held, &an_offer(3, timestamp, b, right)), (12, held.clone()));
+            assert_eq!(offer(algorithm::hash, SHA256, &held, &an_offer(2, timestamp, a, none)), (0, held.clone()));
+            assert_eq!(offer(algorithm::hash, SHA256, &held, &an_offer(3, timestamp, b, right)), (12, held.clone()));
             let after = if other > timestamp { (0, head(3, other, b)) } else { (12, held.clone()) };
-            assert_eq!(offer(digest, &held, &an_offer(3, other, b, right)), after);
+            assert_eq!(offer(algorithm::hash, SHA256, &held, &an_offer(3, other, b, right)), after);
         }
     }
 
@@ -540,24 +569,89 @@ mod tests {
         let leaves: Vec<Hash> = pages.iter().map(|page| leaf_hash(digest, page)).collect();
         let held = head(2, 5, tree::root(digest, &leaves));
         let good = PageCall { place: 1, page: pages[1].clone(), path: leaves[0].to_vec() };
-        assert_eq!(page(digest, &held, &good), 0);
-        assert_eq!(page(digest, &held, &PageCall { place: 0, ..good.clone() }), 8);
-        assert_eq!(page(digest, &held, &PageCall { place: 2, ..good.clone() }), 6);
-        assert_eq!(page(digest, &held, &PageCall { path: vec![], ..good.clone() }), 7);
-        assert_eq!(page(digest, &held, &PageCall { path: vec![1], ..good.clone() }), 10);
-        assert_eq!(page(digest, &held, &PageCall { page: b"tow".to_vec(), ..good.clone() }), 8);
-        assert_eq!(page(digest, &held, &PageCall { page: vec![0; LONGEST_ITEM + 1], place: 9, path: vec![1] }), 1);
-        assert_eq!(page(digest, &held, &PageCall { page: vec![0; LONGEST_ITEM], ..good }), 8);
+        assert_eq!(page(algorithm::hash, SHA256, &held, &good), 0);
+        assert_eq!(page(algorithm::hash, SHA256, &held, &PageCall { place: 0, ..good.clone() }), 8);
+        assert_eq!(page(algorithm::hash, SHA256, &held, &PageCall { place: 2, ..good.clone() }), 6);
+        assert_eq!(page(algorithm::hash, SHA256, &held, &PageCall { path: vec![], ..good.clone() }), 7);
+        assert_eq!(page(algorithm::hash, SHA256, &held, &PageCall { path: vec![1], ..good.clone() }), 10);
+        assert_eq!(page(algorithm::hash, SHA256, &held, &PageCall { page: b"tow".to_vec(), ..good.clone() }), 8);
+        assert_eq!(page(algorithm::hash, SHA256, &held, &PageCall { page: vec![0; LONGEST_ITEM + 1], place: 9, path: vec![1] }), 1);
+        assert_eq!(page(algorithm::hash, SHA256, &held, &PageCall { page: vec![0; LONGEST_ITEM], ..good }), 8);
+    }
+
+    /// 16 before all else: for a number that no hash has, and for another than that of the first
+    /// head that was accepted. It changes nothing.
+    #[test]
+    fn numbers() {
+        let hashes = algorithm::hash;
+        let longer = PageCall { place: 9, page: vec![0; LONGEST_ITEM + 1], path: vec![1] };
+        let bad = Offer { log_id: vec![], root: vec![], ..an_offer(0, 0, [0; 32], &[1]) };
+        for by in UNKNOWN {
+            assert_eq!(page(hashes, by, &None, &longer), 16);
+            assert_eq!(offer(hashes, by, &None, &bad), (16, None));
+            assert_eq!(offer(hashes, by, &None, &an_offer(3, 5, [1; 32], &[])), (16, None));
+            // A record that no list returns.
+            let held = Some(Head { algorithm: by, ..head(3, 5, [1; 32]).unwrap() });
+            for other in [by, 0x00, 0xf0] {
+                assert_eq!(offer(hashes, other, &held, &an_offer(3, 5, [1; 32], &[])), (16, held.clone()));
+                assert_eq!(page(hashes, other, &held, &longer), 16);
+            }
+        }
+        for by in KNOWN {
+            assert_eq!((page(hashes, by, &None, &longer), offer(hashes, by, &None, &bad)), (14, (5, None)));
+            // A refused first head leaves no number.
+            let leaves = [b"a", b"b", b"c"].map(|page| leaf_hash(hashes(by).unwrap(), page));
+            let roots = [2, 3].map(|size| tree::root(hashes(by).unwrap(), &leaves[..size]));
+            let (number, held) = offer(hashes, by, &None, &an_offer(2, 5, roots[0], &[]));
+            assert_eq!((number, &held), (0, &Some(Head { algorithm: by, ..head(2, 5, roots[0]).unwrap() })));
+            let (good, again) = (an_offer(3, 6, roots[1], &leaves[2]), an_offer(2, 5, roots[0], &[]));
+            let call = PageCall { place: 0, page: b"a".to_vec(), path: leaves[1].to_vec() };
+            for another in UNKNOWN.into_iter().chain([other(by)]) {
+                for one in [&good, &again, &bad] {
+                    assert_eq!(offer(hashes, another, &held, one), (16, held.clone()));
+                }
+                assert_eq!([&call, &longer].map(|call| page(hashes, another, &held, call)), [16; 2]);
+            }
+            assert_eq!([&call, &longer].map(|call| page(hashes, by, &held, call)), [0, 1]);
+            // Each later head keeps the number.
+            let (number, after) = offer(hashes, by, &held, &good);
+            assert_eq!((number, after.map(|head| head.algorithm)), (0, Some(by)));
+        }
+        // An empty record looks at no number of its own.
+        for number in UNKNOWN.into_iter().chain(KNOWN) {
+            let empty = Stored { algorithm: number, ..Stored::EMPTY };
+            for by in KNOWN {
+                let (number, after) = empty.offer(hashes, by, &an_offer(3, 5, [1; 32], &[]));
+                assert_eq!((number, after.held, after.algorithm), (0, true, by));
+                assert_eq!(empty.offer(hashes, by, &bad), (5, empty.clone()));
+                assert_eq!(empty.page(hashes, by, &longer), 14);
+            }
+            assert_eq!((empty.offer(hashes, 1, &bad), empty.page(hashes, 1, &longer)), ((16, empty.clone()), 16));
+        }
+        let one = Dispute {
+            first: longer.clone(),
+            size: 0,
+            root: vec![],
+            heads: vec![1],
+            second_page: longer.page.clone(),
+            second_path: vec![1],
+        };
+        assert_eq!(UNKNOWN.map(|by| dispute(hashes, by, &one, &mut [])), UNKNOWN.map(|_| Settled::Refused(16)));
+        assert_eq!(KNOWN.map(|by| dispute(hashes, by, &one, &mut [])), [Settled::Refused(1); 2]);
     }
 
     /// Demand 3 on one list: for any two accepted pages at one place the bytes
     /// are the same, or two strings are handed over that differ and have one hash.
-    fn check_list(h: HashFunction, calls: &[Call]) -> [usize; 3] {
-        let accepted: Vec<bool> = run(h, calls).iter().map(|(number, _)| *number == 0).collect();
+    fn check_list(hashes: Hashes, calls: &[(u64, Call)]) -> [usize; 3] {
+        let answers = run(hashes, calls);
+        let accepted: Vec<bool> = answers.iter().map(|(number, _)| *number == 0).collect();
         let mut met = [0; 3];
-        for one in disputes(calls, &accepted) {
+        for (algorithm, one) in disputes(calls, &accepted) {
+            let h = hashes(algorithm).unwrap();
+            // The record's, since the first head was accepted.
+            assert_eq!(answers.last().unwrap().1.as_ref().unwrap().algorithm, algorithm);
             let mut pair = [8; PAIR + 1];
-            let settled = dispute(h, &one, &mut pair);
+            let settled = dispute(hashes, algorithm, &one, &mut pair);
             match strings(&one, settled, &pair) {
                 Some((a, b)) => {
                     assert_ne!(a, b);
@@ -576,21 +670,25 @@ mod tests {
         met
     }
 
-    fn some_calls(h: HashFunction, kind: Kind, bits: u64, tries: usize, random: &mut Random) -> Vec<Call> {
+    /// Calls by one number, with some by others among them.
+    fn some_calls(hashes: Hashes, kind: Kind, bits: u64, tries: usize, random: &mut Random) -> Vec<(u64, Call)> {
         let most = u64::MAX >> random.between(64 - bits, 63);
-        Server::random(h, kind, most, random).calls(40, tries, random)
+        let algorithm = algorithm::some(random);
+        let calls = Server::random(hashes, algorithm, kind, most, random).calls(40, tries, random);
+        with_strays(algorithm, calls, random)
     }
 
-    /// Every offer and every page after the first offer is accepted.
+    /// Every offer and every page after the first offer is accepted, but for those by other
+    /// numbers.
     #[test]
     fn honest_log() {
         let random = &mut Random::new(3);
         let mut all = 0;
-        for _ in 0..20 {
-            let calls = some_calls(digest, Kind::Honest, 64, 0, random);
-            let refused = run(digest, &calls).into_iter().find(|(number, _)| *number != 0 && *number != 14);
+        for _ in 0..30 {
+            let calls = some_calls(algorithm::hash, Kind::Honest, 64, 0, random);
+            let refused = run(algorithm::hash, &calls).into_iter().find(|(number, _)| ![0, 14, 16].contains(number));
             assert_eq!(refused, None);
-            let [same, nodes, pages] = check_list(digest, &calls);
+            let [same, nodes, pages] = check_list(algorithm::hash, &calls);
             assert_eq!((nodes, pages), (0, 0));
             all += same;
         }
@@ -611,35 +709,40 @@ mod tests {
         assert!(met.iter().all(|count| *count > 50), "{met:?}");
     }
 
-    /// Sizes never fall and timestamps never go back, and one timestamp has one head; a
-    /// refusal changes nothing. The record as it is kept answers as the paper's does.
+    /// Sizes never fall and timestamps never go back, one timestamp has one head, and the hash
+    /// stays; a refusal changes nothing. The record as it is kept answers as the paper's does.
     #[test]
     fn records_only_grow() {
         let random = &mut Random::new(333);
+        let mut others = 0;
         for _ in 0..40 {
             let calls = some_calls(weak, Kind::Forging, 6, 60, random);
             let (mut before, mut stored): (Record, Stored) = (None, Stored::EMPTY);
-            for (call, (number, after)) in calls.iter().zip(run(weak, &calls)) {
+            for ((by, call), (number, after)) in calls.iter().zip(run(weak, &calls)) {
                 if number != 0 {
                     assert_eq!(before, after);
                 }
+                let is_other = before.as_ref().is_some_and(|held| held.algorithm != *by);
+                assert_eq!(number == 16, weak(*by).is_none() || is_other);
+                others += (number == 16) as usize;
                 if let (Some(old), Some(new)) = (&before, &after) {
                     assert!(new.size >= old.size && new.timestamp >= old.timestamp && new.log_id == old.log_id);
-                    assert!(new.timestamp > old.timestamp || new == old);
+                    assert!((new.timestamp > old.timestamp || new == old) && new.algorithm == old.algorithm);
                 }
                 assert!(before.is_none() || after.is_some());
                 match call {
                     Call::Offer(one) => {
-                        let (answer, next) = stored.offer(weak, one);
+                        let (answer, next) = stored.offer(weak, *by, one);
                         assert_eq!(answer, number);
                         stored = next;
                     }
-                    Call::Page(one) => assert_eq!(stored.page(weak, one), number),
+                    Call::Page(one) => assert_eq!(stored.page(weak, *by, one), number),
                 }
                 assert_eq!(stored.head(), after);
                 before = after;
             }
         }
+        assert!(others > 100, "{others}");
     }
 
     /// A head is cut wherever it ends before its last node.
@@ -671,14 +774,14 @@ mod tests {
             second_page: b"page".to_vec(),
             second_path: vec![],
         };
-        assert_eq!(dispute(digest, &good, &mut [0; 130]), Settled::Same);
+        assert_eq!(dispute(algorithm::hash, SHA256, &good, &mut [0; 130]), Settled::Same);
         let long = |length: usize| vec![0; LONGEST_ITEM + length];
         let first = |length: usize| Dispute { first: PageCall { page: long(length), ..good.first.clone() }, ..good.clone() };
         let second = |length: usize| Dispute { second_page: long(length), ..good.clone() };
-        assert_eq!(dispute(digest, &first(0), &mut [0; 130]), Settled::Refused(8));
-        assert_eq!(dispute(digest, &second(0), &mut [0; 130]), Settled::Refused(8));
+        assert_eq!(dispute(algorithm::hash, SHA256, &first(0), &mut [0; 130]), Settled::Refused(8));
+        assert_eq!(dispute(algorithm::hash, SHA256, &second(0), &mut [0; 130]), Settled::Refused(8));
         for one in [first(1), second(1)] {
-            assert_eq!(dispute(digest, &Dispute { root: vec![], heads: vec![0], ..one }, &mut []), Settled::Refused(1));
+            assert_eq!(dispute(algorithm::hash, SHA256, &Dispute { root: vec![], heads: vec![0], ..one }, &mut []), Settled::Refused(1));
         }
     }
 }

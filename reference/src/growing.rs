@@ -2,6 +2,7 @@
 //! hash a level. A list of calls from a new tree is answered a second time, from
 //! the list of all its leaves and the recursive definition alone.
 
+use crate::algorithm::{Hashes, REFUSED};
 use crate::item::LONGEST_ITEM;
 use crate::tree::{self, hand_out, hashes, leaf_hash, leaves_of, node_hash, Hash, HashFunction, LARGEST_SIZE, MOST_LEAVES};
 
@@ -14,6 +15,8 @@ pub const NOTHING: Hash = [0; 32];
 /// answers, also one that no list of calls returns.
 #[derive(Clone, Debug, PartialEq, Eq)]
 pub struct Growing {
+    /// The number of the hash that it was made with.
+    pub algorithm: u64,
     pub hashes: [Hash; LEVELS],
     pub count: u64,
 }
@@ -53,10 +56,28 @@ fn past_the_limit(count: u64, more: u64) -> bool {
 }
 
 impl Growing {
-    pub const NEW: Growing = Growing { hashes: [NOTHING; LEVELS], count: 0 };
+    /// Of no leaves, with this number, which may be that of no hash.
+    pub const fn new(algorithm: u64) -> Growing {
+        Growing { algorithm, hashes: [NOTHING; LEVELS], count: 0 }
+    }
+
+    /// 0, or 16 for a number that no hash has; the tree holds the number either way.
+    pub fn make(hashes: Hashes, algorithm: u64) -> (u64, Growing) {
+        let number = if hashes(algorithm).is_some() { 0 } else { REFUSED };
+        (number, Growing::new(algorithm))
+    }
+
+    /// The hash of a call's number, or 16: where no hash has it, and where it is not the tree's.
+    fn hash(&self, hashes: Hashes, algorithm: u64) -> Result<HashFunction, u64> {
+        hashes(algorithm).filter(|_| algorithm == self.algorithm).ok_or(REFUSED)
+    }
 
     /// The number, and the tree after the call.
-    pub fn page(&self, h: HashFunction, page: &[u8]) -> (u64, Growing) {
+    pub fn page(&self, hashes: Hashes, algorithm: u64, page: &[u8]) -> (u64, Growing) {
+        let h = match self.hash(hashes, algorithm) {
+            Ok(h) => h,
+            Err(number) => return (number, self.clone()),
+        };
         match page_refusal(page.len() as u64, self.count) {
             0 => (0, self.with(h, &[leaf_hash(h, page)])),
             number => (number, self.clone()),
@@ -64,17 +85,21 @@ impl Growing {
     }
 
     /// The number, and the tree after the call.
-    pub fn leaves(&self, h: HashFunction, joined: &[u8]) -> (u64, Growing) {
+    pub fn leaves(&self, by: Hashes, algorithm: u64, joined: &[u8]) -> (u64, Growing) {
+        let h = match self.hash(by, algorithm) {
+            Ok(h) => h,
+            Err(number) => return (number, self.clone()),
+        };
         match leaves_refusal(joined.len() as u64, self.count) {
             0 => (0, self.with(h, &hashes(joined).unwrap())),
             number => (number, self.clone()),
         }
     }
 
-    pub fn call(&self, h: HashFunction, call: &Call) -> (u64, Growing) {
+    pub fn call(&self, hashes: Hashes, algorithm: u64, call: &Call) -> (u64, Growing) {
         match call {
-            Call::Page(page) => self.page(h, page),
-            Call::Leaves(joined) => self.leaves(h, joined),
+            Call::Page(page) => self.page(hashes, algorithm, page),
+            Call::Leaves(joined) => self.leaves(hashes, algorithm, joined),
         }
     }
 
@@ -102,24 +127,25 @@ impl Growing {
         self.count += 1;
     }
 
-    /// The hashes that count, folded from the lowest.
-    pub fn root(&self, h: HashFunction) -> Hash {
-        let hashes = (0..LEVELS).filter(|level| self.counts(*level)).map(|level| self.hashes[level]);
-        hashes.reduce(|right, left| node_hash(h, &left, &right)).unwrap_or_else(|| h(&[]))
+    /// The hashes that count, folded from the lowest, or 16.
+    pub fn root(&self, hashes: Hashes, algorithm: u64) -> Result<Hash, u64> {
+        let h = self.hash(hashes, algorithm)?;
+        let counted = (0..LEVELS).filter(|level| self.counts(*level)).map(|level| self.hashes[level]);
+        Ok(counted.reduce(|right, left| node_hash(h, &left, &right)).unwrap_or_else(|| h(&[])))
     }
 
-    /// The bytes written, or 9.
-    pub fn root_into(&self, h: HashFunction, lent: &mut [u8]) -> Result<usize, u64> {
-        hand_out(&[self.root(h)], lent)
+    /// The bytes written, or 16, then 9.
+    pub fn root_into(&self, hashes: Hashes, algorithm: u64, lent: &mut [u8]) -> Result<usize, u64> {
+        hand_out(&[self.root(hashes, algorithm)?], lent)
     }
 }
 
 /// The tree of a list of leaf hashes, from the list alone: where bit i of its
 /// length is one, level i has the root of the 2^i leaves behind those of the
-/// higher ones.
-pub fn of_list(h: HashFunction, leaves: &[Hash]) -> Growing {
-    let n = leaves.len();
-    let mut tree = Growing { count: n as u64, ..Growing::NEW };
+/// higher ones. Its number is that of a hash.
+pub fn of_list(hashes: Hashes, algorithm: u64, leaves: &[Hash]) -> Growing {
+    let (n, h) = (leaves.len(), hashes(algorithm).expect("a known number"));
+    let mut tree = Growing { count: n as u64, ..Growing::new(algorithm) };
     for (level, hash) in tree.hashes.iter_mut().enumerate() {
         if n >> level & 1 == 1 {
             let start = ((n >> level) - 1) << level;
@@ -129,39 +155,47 @@ pub fn of_list(h: HashFunction, leaves: &[Hash]) -> Growing {
     tree
 }
 
-/// What a list of calls from a new tree gives: the number of each call and the
-/// root after it, and the tree at the end.
+/// What a list of calls from a new tree gives: the number of making it, that of each call
+/// and the root after it, zeros where that is refused, and the tree at the end.
 #[derive(Clone, Debug, PartialEq, Eq)]
 pub struct Grown {
+    pub number: u64,
     pub told: Vec<(u64, Hash)>,
     pub tree: Growing,
 }
 
-/// Each call is given the tree that the call before returned, refused or not.
-fn grow_by_levels(h: HashFunction, calls: &[Call]) -> Grown {
-    let (mut told, mut tree) = (Vec::new(), Growing::NEW);
-    for call in calls {
-        let (number, after) = tree.call(h, call);
-        told.push((number, after.root(h)));
-        tree = after;
-    }
-    Grown { told, tree }
+/// Calls, each by the same number.
+pub fn under(algorithm: u64, calls: &[Call]) -> Vec<(u64, Call)> {
+    calls.iter().map(|call| (algorithm, call.clone())).collect()
 }
 
-/// By the definition, of the leaves of all calls so far that were not refused.
-fn grow_by_list(h: HashFunction, calls: &[Call]) -> Grown {
+/// Each call has the number of its hash and is given the tree that the call before
+/// returned, refused or not.
+fn grow_by_levels(hashes: Hashes, algorithm: u64, calls: &[(u64, Call)]) -> Grown {
+    let (number, mut tree) = Growing::make(hashes, algorithm);
+    let mut told = Vec::new();
+    for (by, call) in calls {
+        let (number, after) = tree.call(hashes, *by, call);
+        told.push((number, after.root(hashes, algorithm).unwrap_or(NOTHING)));
+        tree = after;
+    }
+    Grown { number, told, tree }
+}
+
+/// By the definition, of the leaves of all calls so far that were not refused. A tree whose
+/// number no hash has refuses all.
+fn grow_by_list(hashes: Hashes, algorithm: u64, calls: &[(u64, Call)]) -> Grown {
+    let Some(h) = hashes(algorithm) else {
+        return Grown { number: REFUSED, told: vec![(REFUSED, NOTHING); calls.len()], tree: Growing::new(algorithm) };
+    };
     let (mut told, mut leaves) = (Vec::new(), Vec::new());
-    for call in calls {
-        let number = match added(h, call, leaves.len()) {
-            Ok(more) => {
-                leaves.extend(more);
-                0
-            }
-            Err(number) => number,
-        };
+    for (by, call) in calls {
+        let more = if *by == algorithm { added(h, call, leaves.len()) } else { Err(REFUSED) };
+        let number = more.as_ref().err().copied().unwrap_or(0);
+        leaves.extend(more.into_iter().flatten());
         told.push((number, tree::root(h, &leaves)));
     }
-    Grown { told, tree: of_list(h, &leaves) }
+    Grown { number: 0, told, tree: of_list(hashes, algorithm, &leaves) }
 }
 
 /// The leaves that a call adds to a list of so many, or its refusal.
@@ -178,16 +212,16 @@ fn added(h: HashFunction, call: &Call, length: usize) -> Result<Vec<Hash>, u64> 
 }
 
 /// Both ways, which must agree.
-pub fn grow(h: HashFunction, calls: &[Call]) -> Grown {
-    let grown = grow_by_levels(h, calls);
-    assert_eq!(grown, grow_by_list(h, calls), "the two ways disagree");
+pub fn grow(hashes: Hashes, algorithm: u64, calls: &[(u64, Call)]) -> Grown {
+    let grown = grow_by_levels(hashes, algorithm, calls);
+    assert_eq!(grown, grow_by_list(hashes, algorithm, calls), "the two ways disagree");
     grown
 }
 
 #[cfg(test)]
 mod tests {
     use super::*;
-    use crate::carry::weak;
+    use crate::algorithm::{hash, other, weak, KNOWN, SHA256, UNKNOWN};
     use crate::random::Random;
     use crate::sha256::{digest, leaf, node};
     use crate::words::hex;
@@ -201,26 +235,27 @@ mod tests {
     }
 
     fn made_up(count: u64, random: &mut Random) -> Growing {
-        Growing { hashes: some_hashes(LEVELS, random).try_into().unwrap(), count }
+        Growing { algorithm: SHA256, hashes: some_hashes(LEVELS, random).try_into().unwrap(), count }
     }
 
     #[test]
     fn hand_values() {
-        let new = Growing::NEW;
-        assert_eq!(hex(&new.root(digest)), EMPTY);
-        assert_eq!(new.leaves(digest, &[]), (0, new.clone()));
-        let (number, one) = new.page(digest, b"");
+        let new = Growing::new(SHA256);
+        assert_eq!(hex(&new.root(hash, SHA256).unwrap()), EMPTY);
+        assert_eq!(new.leaves(hash, SHA256, &[]), (0, new.clone()));
+        let (number, one) = new.page(hash, SHA256, b"");
         assert_eq!((number, one.count, hex(&one.hashes[0])), (0, 1, EMPTY_PAGE.into()));
-        assert_eq!(hex(&one.root(digest)), EMPTY_PAGE);
-        let (number, one) = new.leaves(digest, &[0; 32]);
-        assert_eq!((number, one.count, one.root(digest)), (0, 1, NOTHING));
-        let (number, two) = new.leaves(digest, &[0; 64]);
-        assert_eq!((number, two.count, hex(&two.root(digest))), (0, 2, TWO_ZEROS.into()));
+        assert_eq!(hex(&one.root(hash, SHA256).unwrap()), EMPTY_PAGE);
+        let (number, one) = new.leaves(hash, SHA256, &[0; 32]);
+        assert_eq!((number, one.count, one.root(hash, SHA256).unwrap()), (0, 1, NOTHING));
+        let (number, two) = new.leaves(hash, SHA256, &[0; 64]);
+        assert_eq!((number, two.count, hex(&two.root(hash, SHA256).unwrap())), (0, 2, TWO_ZEROS.into()));
         assert_eq!(hex(&two.hashes[1]), TWO_ZEROS);
 
         // Three leaves: the first two at level 1, the last at level 0.
         let (a, b, c) = (leaf(b"a"), leaf(b"b"), leaf(b"c"));
-        let grown = grow(digest, &[Call::Page(b"a".into()), Call::Leaves(vec![]), Call::Leaves([b, c].concat())]);
+        let calls = [Call::Page(b"a".into()), Call::Leaves(vec![]), Call::Leaves([b, c].concat())];
+        let grown = grow(hash, SHA256, &under(SHA256, &calls));
         assert_eq!(grown.told, [(0, a), (0, a), (0, node(&node(&a, &b), &c))]);
         assert_eq!(grown.tree.hashes[..3], [c, node(&a, &b), NOTHING]);
         assert_eq!((&grown.tree.hashes[2..], grown.tree.count), (&[NOTHING; LEVELS - 2][..], 3));
@@ -233,13 +268,13 @@ mod tests {
         for level in [1, 31, 32, 33, 62, 63] {
             let tree = made_up((1 << level) - 1, random);
             let merged = tree.hashes[..level].iter().fold(leaf(b"page"), |right, left| node(left, &right));
-            let (number, after) = tree.page(digest, b"page");
-            assert_eq!((number, after.count, after.root(digest)), (0, 1 << level, merged));
+            let (number, after) = tree.page(hash, SHA256, b"page");
+            assert_eq!((number, after.count, after.root(hash, SHA256).unwrap()), (0, 1 << level, merged));
             assert_eq!((&after.hashes[..level], after.hashes[level]), (&vec![NOTHING; level][..], merged));
             assert_eq!(after.hashes[level + 1..], tree.hashes[level + 1..]);
-            assert_eq!(tree.leaves(digest, &leaf(b"page")), (0, after.clone()));
-            let (number, more) = after.leaves(digest, &[5; 32]);
-            assert_eq!((number, more.count, more.root(digest)), (0, (1 << level) + 1, node(&merged, &[5; 32])));
+            assert_eq!(tree.leaves(hash, SHA256, &leaf(b"page")), (0, after.clone()));
+            let (number, more) = after.leaves(hash, SHA256, &[5; 32]);
+            assert_eq!((number, more.count, more.root(hash, SHA256).unwrap()), (0, (1 << level) + 1, node(&merged, &[5; 32])));
         }
     }
 
@@ -248,23 +283,23 @@ mod tests {
     fn top() {
         let random = &mut Random::new(64);
         let top = made_up(LARGEST_SIZE - 1, random);
-        let (number, full) = top.page(digest, b"page");
+        let (number, full) = top.page(hash, SHA256, b"page");
         assert_eq!((number, full.count, full.hashes[0]), (0, LARGEST_SIZE, leaf(b"page")));
         assert_eq!(full.hashes[1..], top.hashes[1..]);
-        assert_eq!(full.root(digest), full.hashes[1..].iter().fold(leaf(b"page"), |right, left| node(left, &right)));
-        assert_eq!(top.leaves(digest, &leaf(b"page")), (0, full.clone()));
+        assert_eq!(full.root(hash, SHA256).unwrap(), full.hashes[1..].iter().fold(leaf(b"page"), |right, left| node(left, &right)));
+        assert_eq!(top.leaves(hash, SHA256, &leaf(b"page")), (0, full.clone()));
         let refused =
             [(&top, 64, 6), (&top, 33, 10), (&top, 65, 10), (&full, 31, 10), (&full, 32, 6), (&full, 64, 6), (&full, 0, 0), (&top, 0, 0)];
         for (tree, length, number) in refused {
-            assert_eq!(tree.leaves(digest, &vec![0; length]), (number, tree.clone()));
+            assert_eq!(tree.leaves(hash, SHA256, &vec![0; length]), (number, tree.clone()));
         }
-        assert_eq!(full.page(digest, b"p"), (6, full.clone()));
+        assert_eq!(full.page(hash, SHA256, b"p"), (6, full.clone()));
         let (long, longer) = (vec![0; LONGEST_ITEM], vec![0; LONGEST_ITEM + 1]);
-        assert_eq!(full.page(digest, &longer), (1, full.clone()));
-        assert_eq!(Growing::NEW.page(digest, &longer), (1, Growing::NEW));
-        assert_eq!(full.page(digest, &long), (6, full.clone()));
-        let (number, one) = Growing::NEW.page(digest, &long);
-        assert_eq!((number, one.root(digest)), (0, leaf(&long)));
+        assert_eq!(full.page(hash, SHA256, &longer), (1, full.clone()));
+        assert_eq!(Growing::new(SHA256).page(hash, SHA256, &longer), (1, Growing::new(SHA256)));
+        assert_eq!(full.page(hash, SHA256, &long), (6, full.clone()));
+        let (number, one) = Growing::new(SHA256).page(hash, SHA256, &long);
+        assert_eq!((number, one.root(hash, SHA256).unwrap()), (0, leaf(&long)));
     }
 
     /// No sum of any count and any length wraps.
@@ -330,19 +365,58 @@ mod tests {
         calls
     }
 
-    /// Every length up to 300, in random cuts, over both hashes: `grow` compares the ways.
+    /// Every length up to 300, in random cuts, over both hashes and weak ones: `grow` compares the ways.
     #[test]
     fn levels_equal_the_definition() {
         let random = &mut Random::new(300);
         let pages: Vec<Vec<u8>> = (0..300).map(|_| random.bytes(9)).collect();
-        for h in [digest as HashFunction, weak] {
+        for (hashes, algorithm) in [(hash as Hashes, 0x00), (hash, 0xf0), (weak, 0x00), (weak, 0xf0)] {
+            let h = hashes(algorithm).unwrap();
             let leaves: Vec<Hash> = pages.iter().map(|page| leaf_hash(h, page)).collect();
             for n in 0..=300 {
-                let (grown, list) = (grow(h, &cut(h, &pages[..n], random)), &leaves[..n]);
-                assert_eq!((&grown.tree, grown.tree.root(h)), (&of_list(h, list), tree::root(h, list)));
-                assert_eq!(Growing::NEW.leaves(h, &list.concat()), (0, grown.tree));
+                let calls = under(algorithm, &cut(h, &pages[..n], random));
+                let (grown, list) = (grow(hashes, algorithm, &calls), &leaves[..n]);
+                assert_eq!(grown.tree, of_list(hashes, algorithm, list));
+                assert_eq!((grown.number, grown.tree.root(hashes, algorithm)), (0, Ok(tree::root(h, list))));
+                assert_eq!(Growing::new(algorithm).leaves(hashes, algorithm, &list.concat()), (0, grown.tree));
             }
         }
+    }
+
+    /// A call by another number, known or not, is 16 and changes nothing; it comes before 1, 10, 6 and 9.
+    #[test]
+    fn other_numbers() {
+        let random = &mut Random::new(16);
+        let longer = vec![0; LONGEST_ITEM + 1];
+        for algorithm in KNOWN {
+            let full = Growing { algorithm, ..made_up(LARGEST_SIZE, random) };
+            for by in UNKNOWN.into_iter().chain([other(algorithm)]) {
+                assert_eq!(full.page(hash, by, b"page"), (16, full.clone()));
+                assert_eq!(full.page(hash, by, &longer), (16, full.clone()));
+                assert_eq!([31, 32, 0].map(|length| full.leaves(hash, by, &longer[..length]).0), [16; 3]);
+                assert_eq!((full.root(hash, by), full.root_into(hash, by, &mut [])), (Err(16), Err(16)));
+            }
+            assert_eq!((full.page(hash, algorithm, &longer).0, full.page(hash, algorithm, b"page").0), (1, 6));
+            assert_eq!(full.root_into(hash, algorithm, &mut []), Err(9));
+            assert_eq!(Growing::make(hash, algorithm), (0, Growing::new(algorithm)));
+        }
+        // A tree that was made with no hash's number: every call is 16, by its own number too.
+        for algorithm in UNKNOWN {
+            let (number, made) = Growing::make(hash, algorithm);
+            assert_eq!((number, &made), (16, &Growing { algorithm, ..Growing::new(SHA256) }));
+            for by in UNKNOWN.into_iter().chain(KNOWN) {
+                assert_eq!((made.page(hash, by, b""), made.root(hash, by)), ((16, made.clone()), Err(16)));
+            }
+            let grown = grow(hash, algorithm, &[(algorithm, Call::Page(vec![])), (0x00, Call::Leaves(vec![]))]);
+            assert_eq!(grown, Grown { number: 16, told: vec![(16, NOTHING); 2], tree: made });
+        }
+        // Refused calls among others.
+        let calls = [(0xf0, Call::Page(b"a".into())), (0x00, Call::Page(b"b".into())), (0x1f0, Call::Leaves(vec![5; 31]))];
+        let one = leaf_hash(hash(0xf0).unwrap(), b"a");
+        assert_eq!(grow(hash, 0xf0, &calls).told, [(0, one), (16, one), (16, one)]);
+        let zeros = hash(0xf0).unwrap()(&[&[1][..], &[0; 64]].concat());
+        assert_eq!(hex(&zeros), "5ec1420cd14f308650cb6ac8dcd6bab89589f1f3dced7c1a17345f269e605291");
+        assert_eq!(Growing::new(0xf0).leaves(hash, 0xf0, &[0; 64]).1.root(hash, 0xf0), Ok(zeros));
     }
 
     /// How a wrong program adds a leaf.
@@ -388,17 +462,17 @@ mod tests {
     fn wrong_trees_are_caught() {
         let leaves = some_hashes(9, &mut Random::new(9));
         let differs = |add: Add| {
-            let mut tree = Growing::NEW;
+            let mut tree = Growing::new(SHA256);
             (1..=leaves.len()).any(|n| {
                 add(&mut tree, &leaves[n - 1]);
-                tree != of_list(digest, &leaves[..n])
+                tree != of_list(hash, SHA256, &leaves[..n])
             })
         };
         for (what, add) in WRONG {
             assert!(differs(add), "{what}");
         }
         assert!(!differs(|tree, leaf| merges(tree, leaf, tree.count.trailing_ones() as usize, node)));
-        let seven = of_list(digest, &leaves[..7]);
+        let seven = of_list(hash, SHA256, &leaves[..7]);
         for (what, root) in WRONG_ROOTS {
             assert_ne!(root(&seven.hashes[..3]), tree::root(digest, &leaves[..7]), "{what}");
         }
@@ -413,7 +487,7 @@ mod tests {
             static CALLS: AtomicU8 = AtomicU8::new(0);
             [CALLS.fetch_add(1, Ordering::Relaxed); 32]
         }
-        grow(unsteady, &[Call::Page(vec![])]);
+        grow(|_| Some(unsteady), SHA256, &[(SHA256, Call::Page(vec![]))]);
     }
 
     // Any state, from the top down.
@@ -465,9 +539,9 @@ mod tests {
                 _ => LARGEST_SIZE - random.below(40),
             };
             let state = made_up(count, random);
-            assert_eq!(state.root(digest), root_of(&state.hashes, count));
+            assert_eq!(state.root(hash, SHA256).unwrap(), root_of(&state.hashes, count));
             let more = some_hashes(random.below(20) as usize, random);
-            let (number, one) = state.leaves(digest, &more.concat());
+            let (number, one) = state.leaves(hash, SHA256, &more.concat());
             if count as u128 + more.len() as u128 > LARGEST_SIZE as u128 {
                 assert_eq!((number, one), (6, state));
                 continue;
@@ -475,7 +549,7 @@ mod tests {
             assert_eq!((number, &one), (0, &after(&state, &more)));
             let mut each = state;
             for leaf in &more {
-                (_, each) = each.leaves(digest, leaf);
+                (_, each) = each.leaves(hash, SHA256, leaf);
             }
             assert_eq!(each, one);
         }

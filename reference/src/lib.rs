@@ -1,6 +1,7 @@
-//! The independent second program, written from FIPS 180-4, RFC 9162, RFC 6962
-//! and the scope paper alone. It shares no code with the program that it tests.
+//! The independent second program, written from FIPS 180-4, GB/T 32905-2016, RFC 9162,
+//! RFC 6962 and the scope paper alone. It shares no code with the program that it tests.
 
+pub mod algorithm;
 pub mod auditor;
 pub mod carry;
 pub mod counts;
@@ -15,6 +16,7 @@ pub mod random;
 pub mod requests;
 pub mod servers;
 pub mod sha256;
+pub mod sm3;
 pub mod structures;
 pub mod talk;
 pub mod tree;

@@ -1,5 +1,6 @@
 //! What the program `pace` must answer, whose time bench measures.
 
+use crate::algorithm::{hash, SHA256};
 use crate::growing::Growing;
 use crate::sha256::{digest, node};
 use crate::tree::{self, Hash};
@@ -17,10 +18,10 @@ pub fn xor(one: Hash, two: Hash) -> Hash {
 
 /// The xor of the roots after each leaf.
 fn all_roots(leaves: &[Hash]) -> Hash {
-    let (mut tree, mut all) = (Growing::NEW, [0; 32]);
+    let (mut tree, mut all) = (Growing::new(SHA256), [0; 32]);
     for leaf in leaves {
-        (_, tree) = tree.leaves(digest, leaf);
-        all = xor(all, tree.root(digest));
+        (_, tree) = tree.leaves(hash, SHA256, leaf);
+        all = xor(all, tree.root(hash, SHA256).expect("the tree's number"));
     }
     all
 }

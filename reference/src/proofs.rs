@@ -1,16 +1,17 @@
 //! Proofs for requests: built from lists, made for any numbers, and damaged.
 
+use crate::algorithm;
 use crate::random::Random;
 use crate::requests::Requests;
-use crate::sha256::digest;
 use crate::tree::{self, Hash, LARGEST_SIZE};
 use crate::words::{bytes, number, short, Word};
 use crate::{verdict, yields};
 
-/// The numbers and strings of one verdict: inclusion has the place, the size,
-/// the leaf hash and the root; consistency two sizes and two roots.
+/// The numbers and strings of one verdict, and the number of its hash: inclusion has the
+/// place, the size, the leaf hash and the root; consistency two sizes and two roots.
 #[derive(Clone)]
 pub struct Proof {
+    pub algorithm: u64,
     pub is_inclusion: bool,
     pub numbers: [u64; 2],
     pub hashes: [Vec<u8>; 2],
@@ -18,35 +19,46 @@ pub struct Proof {
 }
 
 impl Proof {
-    pub fn inclusion(leaf: &Hash, place: u64, size: u64, root: &Hash, path: &[Hash]) -> Proof {
-        Proof { is_inclusion: true, numbers: [place, size], hashes: [leaf.to_vec(), root.to_vec()], path: path.concat() }
+    pub fn inclusion(algorithm: u64, leaf: &Hash, place: u64, size: u64, root: &Hash, path: &[Hash]) -> Proof {
+        let hashes = [leaf.to_vec(), root.to_vec()];
+        Proof { algorithm, is_inclusion: true, numbers: [place, size], hashes, path: path.concat() }
     }
 
-    pub fn consistency(first: u64, second: u64, first_root: &Hash, second_root: &Hash, path: &[Hash]) -> Proof {
-        Proof { is_inclusion: false, numbers: [first, second], hashes: [first_root.to_vec(), second_root.to_vec()], path: path.concat() }
+    pub fn consistency(algorithm: u64, first: u64, second: u64, first_root: &Hash, second_root: &Hash, path: &[Hash]) -> Proof {
+        let hashes = [first_root.to_vec(), second_root.to_vec()];
+        Proof { algorithm, is_inclusion: false, numbers: [first, second], hashes, path: path.concat() }
+    }
+
+    pub fn entry(&self) -> &'static str {
+        if self.is_inclusion {
+            "inclusion"
+        } else {
+            "consistency"
+        }
     }
 
     pub fn ask(&self, requests: &mut Requests) {
-        requests.ask(if self.is_inclusion { "inclusion" } else { "consistency" }, &self.words());
+        requests.ask(self.entry(), &self.words());
     }
 
-    /// The verdict's number.
+    /// The verdict's number; 16 before all else.
     pub fn number(&self) -> u64 {
+        let Some(h) = algorithm::hash(self.algorithm) else { return algorithm::REFUSED };
         let ([one, two], [first, second], path) = (self.numbers, &self.hashes, &self.path);
         if self.is_inclusion {
-            verdict::inclusion(digest, &verdict::Inclusion { leaf: first, place: one, size: two, root: second, path })
+            verdict::inclusion(h, &verdict::Inclusion { leaf: first, place: one, size: two, root: second, path })
         } else {
-            verdict::consistency(digest, &verdict::Consistency { first: one, second: two, first_root: first, second_root: second, path })
+            verdict::consistency(h, &verdict::Consistency { first: one, second: two, first_root: first, second_root: second, path })
         }
     }
 
     pub fn words(&self) -> Vec<Word> {
-        let [one, two] = self.numbers.map(number);
+        let [algorithm, one, two] = [self.algorithm, self.numbers[0], self.numbers[1]].map(number);
         let [first, second] = &self.hashes;
         if self.is_inclusion {
-            vec![short(first), one, two, short(second), short(&self.path)]
+            vec![algorithm, short(first), one, two, short(second), short(&self.path)]
         } else {
-            vec![one, two, short(first), short(second), short(&self.path)]
+            vec![algorithm, one, two, short(first), short(second), short(&self.path)]
         }
     }
 
@@ -64,7 +76,7 @@ fn flip(bytes: &mut [u8], random: &mut Random) {
     }
 }
 
-/// Damage of the numbers and the hashes, and of the path as a whole.
+/// Damage of the numbers and the hashes, and of the path as a whole; another hash, and none.
 pub fn damaged(proof: &Proof, random: &mut Random) -> Vec<Proof> {
     let mut all = Vec::new();
     for which in 0..2 {
@@ -78,6 +90,8 @@ pub fn damaged(proof: &Proof, random: &mut Random) -> Vec<Proof> {
     all.push(proof.with(|p| {
         p.path.splice(0..0, random.hash());
     }));
+    all.push(proof.with(|p| p.algorithm = algorithm::other(p.algorithm)));
+    all.push(proof.with(|p| p.algorithm = algorithm::some_unknown(random)));
     all
 }
 
@@ -113,7 +127,15 @@ pub fn damaged_lengths(proof: &Proof, random: &mut Random) -> Vec<Proof> {
         all.push(proof.with(|p| p.path.truncate(p.path.len().saturating_sub(remove))));
     }
     all.push(proof.with(|p| p.path.clear()));
-    // Two faults at once: the order is 5, 10, 6, 7, 8.
+    // Two faults at once: the order is 16, 5, 10, 6, 7, 8.
+    all.push(proof.with(|p| {
+        p.algorithm = algorithm::some_unknown(random);
+        p.hashes[random.below(2) as usize].pop();
+    }));
+    all.push(proof.with(|p| {
+        p.algorithm = algorithm::some_unknown(random);
+        p.path.push(0);
+    }));
     all.push(proof.with(|p| {
         p.hashes[0].pop();
         p.path.push(0);
@@ -138,8 +160,9 @@ pub fn damaged_lengths(proof: &Proof, random: &mut Random) -> Vec<Proof> {
 }
 
 /// A proof that is accepted, and with it what is not: a node more and one fewer,
-/// another hash, and no place of that size, or a first size of 0 or above the second.
-/// Each has its number. A node more is the last one again, or else a copy of the first hash.
+/// a hash changed, no place of that size, or a first size of 0 or above the second, a
+/// number that no hash has, and the other hash's, by which only a root that no node was
+/// hashed for is right. Each has its number. A node more is the last one again, or else a copy of the first hash.
 pub fn judged(proof: &Proof) -> Vec<(u64, Proof)> {
     let mut all = vec![(0, proof.clone())];
     let node = proof.path.last_chunk::<32>().copied().unwrap_or(proof.hashes[0][..].try_into().unwrap());
@@ -152,42 +175,47 @@ pub fn judged(proof: &Proof) -> Vec<(u64, Proof)> {
     let bad = if proof.is_inclusion { [Some(size), Some(u64::MAX)] } else { [Some(0), size.checked_add(1)] };
     all.extend(bad.into_iter().flatten().map(|bad| (6, proof.with(|p| p.numbers[0] = bad))));
     all.push((6, proof.with(|p| p.numbers[1] = 0)));
+    all.push((16, proof.with(|p| p.algorithm ^= 0x100)));
+    let is_hashed = if proof.is_inclusion { size > 1 } else { size > proof.numbers[0] };
+    all.push((if is_hashed { 8 } else { 0 }, proof.with(|p| p.algorithm = algorithm::other(p.algorithm))));
     all
 }
 
 /// An accepted proof for any place and size: the leaf hash and the nodes are free,
 /// and the root is the one they yield.
-fn free_inclusion(place: u64, size: u64, mut free: impl FnMut() -> Hash) -> Proof {
+fn free_inclusion(algorithm: u64, place: u64, size: u64, mut free: impl FnMut() -> Hash) -> Proof {
     let leaf = free();
     let nodes: Vec<Hash> = (0..yields::inclusion_count(place, size)).map(|_| free()).collect();
-    let root = yields::inclusion(digest, &leaf, place, size, &nodes).unwrap();
-    Proof::inclusion(&leaf, place, size, &root, &nodes)
+    let root = yields::inclusion(algorithm::of(algorithm), &leaf, place, size, &nodes).unwrap();
+    Proof::inclusion(algorithm, &leaf, place, size, &root, &nodes)
 }
 
 /// An accepted proof for any two sizes, the first above 0 and not above the second.
-fn free_consistency(first: u64, second: u64, mut free: impl FnMut() -> Hash) -> Proof {
+fn free_consistency(algorithm: u64, first: u64, second: u64, mut free: impl FnMut() -> Hash) -> Proof {
     let known = free();
     let nodes: Vec<Hash> = (0..yields::consistency_count(first, second)).map(|_| free()).collect();
-    let (first_root, second_root) =
-        if first == second { (known, known) } else { yields::consistency(digest, first, second, &known, &nodes).unwrap() };
-    Proof::consistency(first, second, &first_root, &second_root, &nodes)
+    let (first_root, second_root) = match first == second {
+        true => (known, known),
+        false => yields::consistency(algorithm::of(algorithm), first, second, &known, &nodes).unwrap(),
+    };
+    Proof::consistency(algorithm, first, second, &first_root, &second_root, &nodes)
 }
 
-pub fn made_inclusion(place: u64, size: u64, random: &mut Random) -> Proof {
-    free_inclusion(place, size, || random.hash())
+pub fn made_inclusion(algorithm: u64, place: u64, size: u64, random: &mut Random) -> Proof {
+    free_inclusion(algorithm, place, size, || random.hash())
 }
 
-pub fn made_consistency(first: u64, second: u64, random: &mut Random) -> Proof {
-    free_consistency(first, second, || random.hash())
+pub fn made_consistency(algorithm: u64, first: u64, second: u64, random: &mut Random) -> Proof {
+    free_consistency(algorithm, first, second, || random.hash())
 }
 
 /// Of one byte over and over, which a request writes shorter.
-pub fn plain_inclusion(place: u64, size: u64, byte: u8) -> Proof {
-    free_inclusion(place, size, || [byte; 32])
+pub fn plain_inclusion(algorithm: u64, place: u64, size: u64, byte: u8) -> Proof {
+    free_inclusion(algorithm, place, size, || [byte; 32])
 }
 
-pub fn plain_consistency(first: u64, second: u64, byte: u8) -> Proof {
-    free_consistency(first, second, || [byte; 32])
+pub fn plain_consistency(algorithm: u64, first: u64, second: u64, byte: u8) -> Proof {
+    free_consistency(algorithm, first, second, || [byte; 32])
 }
 
 /// The numbers below 2^64 that are a power of two, up to 2^64, or at most `far` from one.
@@ -231,17 +259,21 @@ pub const LARGE: [u64; 17] = [
     LARGEST_SIZE,
 ];
 
-/// Leaves, the root and all proofs of a list.
+/// Leaves, the root and all proofs of a list, by the hash of a number.
 pub struct List {
+    pub algorithm: u64,
     pub leaves: Vec<Hash>,
     pub root: Hash,
 }
 
 impl List {
-    pub fn random(count: usize, random: &mut Random) -> List {
-        let leaves: Vec<Hash> = (0..count).map(|_| random.hash()).collect();
-        let root = tree::root(digest, &leaves);
-        List { leaves, root }
+    pub fn new(algorithm: u64, leaves: Vec<Hash>) -> List {
+        let root = tree::root(algorithm::of(algorithm), &leaves);
+        List { algorithm, leaves, root }
+    }
+
+    pub fn random(algorithm: u64, count: usize, random: &mut Random) -> List {
+        List::new(algorithm, (0..count).map(|_| random.hash()).collect())
     }
 
     pub fn size(&self) -> u64 {
@@ -253,18 +285,19 @@ impl List {
     }
 
     pub fn inclusion(&self, place: u64) -> Proof {
-        let nodes = tree::path(digest, place as usize, &self.leaves);
-        Proof::inclusion(&self.leaves[place as usize], place, self.size(), &self.root, &nodes)
+        let nodes = tree::path(algorithm::of(self.algorithm), place as usize, &self.leaves);
+        Proof::inclusion(self.algorithm, &self.leaves[place as usize], place, self.size(), &self.root, &nodes)
     }
 
     pub fn consistency(&self, first: u64) -> Proof {
-        let first_root = tree::root(digest, &self.leaves[..first as usize]);
-        let nodes = tree::consistency_path(digest, first as usize, &self.leaves);
-        Proof::consistency(first, self.size(), &first_root, &self.root, &nodes)
+        let h = algorithm::of(self.algorithm);
+        let first_root = tree::root(h, &self.leaves[..first as usize]);
+        let nodes = tree::consistency_path(h, first as usize, &self.leaves);
+        Proof::consistency(self.algorithm, first, self.size(), &first_root, &self.root, &nodes)
     }
 }
 
-// Random proofs.
+// Random proofs, by both hashes.
 
 /// A size above 0, of any count of bits.
 fn random_size(random: &mut Random) -> u64 {
@@ -284,7 +317,7 @@ pub fn near_power(random: &mut Random) -> u64 {
     ((1u128 << random.below(65)) as u64).wrapping_add(random.below(5)).wrapping_sub(2)
 }
 
-/// None, one or two faults.
+/// None, one or two faults; the number of the hash is another or none at times.
 fn random_faults(mut proof: Proof, random: &mut Random) -> Proof {
     for _ in 0..*random.pick(&[0, 0, 1, 1, 1, 2]) {
         let all = match random.below(6) {
@@ -296,13 +329,16 @@ fn random_faults(mut proof: Proof, random: &mut Random) -> Proof {
             proof = random.pick(&all).clone();
         }
     }
+    if algorithm::KNOWN.contains(&proof.algorithm) {
+        proof.algorithm = algorithm::mostly(proof.algorithm, random);
+    }
     proof
 }
 
 pub fn random_inclusion(random: &mut Random) -> Proof {
     let size = random_size(random);
     let place = if random.one_in(4) { size - 1 } else { random.below(size) };
-    random_faults(made_inclusion(place, size, random), random)
+    random_faults(made_inclusion(algorithm::some(random), place, size, random), random)
 }
 
 pub fn random_consistency(random: &mut Random) -> Proof {
@@ -312,7 +348,7 @@ pub fn random_consistency(random: &mut Random) -> Proof {
         1 => 1 << random.below(second.ilog2() as u64 + 1),
         _ => 1 + random.below(second),
     };
-    random_faults(made_consistency(first, second, random), random)
+    random_faults(made_consistency(algorithm::some(random), first, second, random), random)
 }
 
 #[cfg(test)]
@@ -338,9 +374,10 @@ mod tests {
         let mut longest = [0; 2];
         for size in next_to_powers(1) {
             let places = if size > 1 { some_places(size, random) } else { (0..size).collect() };
-            for place in places {
-                let made = [made_inclusion(place, size, random), made_consistency(place + 1, size, random)];
-                let plain = [plain_inclusion(place, size, 5), plain_consistency(place + 1, size, 5)];
+            for (turn, place) in places.into_iter().enumerate() {
+                let number = algorithm::KNOWN[turn % 2];
+                let made = [made_inclusion(number, place, size, random), made_consistency(number, place + 1, size, random)];
+                let plain = [plain_inclusion(number, place, size, 5), plain_consistency(number, place + 1, size, 5)];
                 for proof in made.into_iter().chain(plain) {
                     for (number, one) in judged(&proof) {
                         assert_eq!(one.number(), number, "{:?} of {:?}, {} bytes", one.numbers, proof.numbers, one.path.len());

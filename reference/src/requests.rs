@@ -1,8 +1,8 @@
 //! Layers and their entries: who answers which request.
 
-use crate::layers;
 use crate::random::Random;
-use crate::words::{read_line, write_line, Word, LONGEST_LINE};
+use crate::words::{number, read_line, write_line, Word, LONGEST_LINE};
+use crate::{algorithm, layers};
 use std::collections::VecDeque;
 use std::io::Write;
 
@@ -16,6 +16,25 @@ pub struct Entry {
 
 /// A request: the entry's name and its arguments.
 pub type Asked = (&'static str, Vec<Word>);
+
+/// A request whose first argument is the number of a hash, by other numbers.
+pub fn by_numbers<'a>((name, words): &'a Asked, numbers: &'a [u64]) -> impl Iterator<Item = Asked> + 'a {
+    numbers.iter().map(move |algorithm| (*name, [&[number(*algorithm)], &words[1..]].concat()))
+}
+
+/// Requests with the numbers that they must get, and after each the same by numbers that
+/// no hash has, which are 16 before all else: one of these in turn, or all where they are wanted.
+pub fn with_unknown(all: Vec<(u64, Asked)>, all_wanted: bool) -> Vec<(u64, Asked)> {
+    let mut joined = Vec::new();
+    for (turn, (expected, asked)) in all.into_iter().enumerate() {
+        let start = turn % algorithm::UNKNOWN.len();
+        let numbers = if all_wanted { &algorithm::UNKNOWN[..] } else { &algorithm::UNKNOWN[start..=start] };
+        let refused: Vec<_> = by_numbers(&asked, numbers).map(|asked| (algorithm::REFUSED, asked)).collect();
+        joined.push((expected, asked));
+        joined.extend(refused);
+    }
+    joined
+}
 
 pub struct Layer {
     pub name: &'static str,
@@ -143,7 +162,7 @@ fn damage(line: &mut Vec<u8>, random: &mut Random) {
 }
 
 /// Lines that are no request of any entry, for a layer that has `entry`, which
-/// takes one string of bytes first.
+/// takes one string of bytes behind the words that are given with its name.
 pub fn lines_that_are_no_request(requests: &mut Requests, entry: &str) {
     for line in ["", " ", "  ", "?", "#", "x", "x00", "0", "nothing", "nothing x00", "*", "\t", "\r"] {
         requests.line(line.as_bytes());
@@ -208,7 +227,7 @@ mod tests {
         }
         let requests = committed();
         let (asked, answered) = (requests.len(), answers(LAYERS, &requests).len());
-        assert!(asked < 1_500_000 && answered < 1_500_000, "{asked} and {answered}");
+        assert!(asked < 2_400_000 && answered < 2_400_000, "{asked} and {answered}");
         assert_eq!(requests, committed());
     }
 
@@ -242,9 +261,9 @@ mod tests {
 
     #[test]
     fn lines_too_long_or_cut_off_are_no_request() {
-        let longest = [b"digest_into x".to_vec(), vec![b'0'; LONGEST_LINE - 15], b" x\n".to_vec()].concat();
+        let longest = [b"digest_into 0 x".to_vec(), vec![b'0'; LONGEST_LINE - 17], b" x\n".to_vec()].concat();
         assert_eq!(answer_to(&longest), b"9 x\n");
-        let longer = [b"digest x".to_vec(), vec![b'0'; LONGEST_LINE - 7], b"\n".to_vec()].concat();
+        let longer = [b"digest 0 x".to_vec(), vec![b'0'; LONGEST_LINE - 9], b"\n".to_vec()].concat();
         assert_eq!(answer_to(&longer), b"?\n");
         assert_eq!(answer_to(b"newer x x\n"), b"x\n");
         assert_eq!(answer_to(b"newer x x"), b"?\n");
@@ -252,7 +271,7 @@ mod tests {
 
     #[test]
     fn no_request_is_answered_with_a_question_mark() {
-        let requests = written(|requests| lines_that_are_no_request(requests, "digest"));
+        let requests = written(|requests| lines_that_are_no_request(requests, "digest 0"));
         for line in requests.strip_suffix(b"\n").unwrap().split(|c| *c == b'\n') {
             assert_eq!(answer(LAYERS, line), b"?\n", "{}", String::from_utf8_lossy(line));
         }

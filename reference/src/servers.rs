@@ -1,6 +1,7 @@
 //! Logs of any size, and the servers that an auditor meets: honest, forgetful
 //! and forging ones.
 
+use crate::algorithm::{self, Hashes};
 use crate::auditor::{self, Call, Offer, PageCall, Record};
 use crate::carry::{consistency_places, inclusion_places, parts, Leaves};
 use crate::proofs::near_power;
@@ -94,6 +95,9 @@ pub enum Kind {
 pub const KINDS: [Kind; 3] = [Kind::Honest, Kind::Forgetful, Kind::Forging];
 
 pub struct Server {
+    hashes: Hashes,
+    /// The number of its hash, and the hash.
+    algorithm: u64,
     h: HashFunction,
     kind: Kind,
     id: Vec<u8>,
@@ -107,17 +111,19 @@ pub struct Server {
 }
 
 impl Server {
-    pub fn random(h: HashFunction, kind: Kind, most: u64, random: &mut Random) -> Server {
+    pub fn random(hashes: Hashes, algorithm: u64, kind: Kind, most: u64, random: &mut Random) -> Server {
+        let h = hashes(algorithm).expect("a known number");
         let log = Log::random(h, most, random);
         let mut other = log.clone();
         let place = *random.pick(&log.pages.keys().copied().collect::<Vec<u64>>());
         other.pages.insert(place, some_page(random));
         let id_length = *random.pick(&[2, 2, 3, 5, 32, 126, 127]);
-        Server { h, kind, id: random.bytes(id_length), log, other, clock: random.below(1000), at: 0, signed: None }
+        let (id, clock) = (random.bytes(id_length), random.below(1000));
+        Server { hashes, algorithm, h, kind, id, log, other, clock, at: 0, signed: None }
     }
 
-    /// `count` calls, each made knowing the record before it. A forger tries
-    /// `tries` times to be accepted.
+    /// `count` calls by the server's hash, each made knowing the record before it. A forger
+    /// tries `tries` times to be accepted.
     pub fn calls(mut self, count: usize, tries: usize, random: &mut Random) -> Vec<Call> {
         let mut record = None;
         let mut calls = Vec::new();
@@ -128,7 +134,7 @@ impl Server {
                 Call::Page(self.some_page(&record, tries, random))
             };
             if let Call::Offer(offer) = &call {
-                record = auditor::offer(self.h, &record, offer).1;
+                record = auditor::offer(self.hashes, self.algorithm, &record, offer).1;
             }
             if self.kind == Kind::Forgetful && random.one_in(8) {
                 if random.one_in(2) {
@@ -234,7 +240,7 @@ impl Server {
                     let count = if offer.size == held.size { 0 } else { yields::consistency_count(held.size, offer.size) };
                     offer.path = self.any_nodes(count, random);
                     offer.root = (self.h)(&random.bytes(3)).to_vec();
-                    if auditor::offer(self.h, record, &offer).0 == 0 {
+                    if auditor::offer(self.hashes, self.algorithm, record, &offer).0 == 0 {
                         break;
                     }
                 }
@@ -281,7 +287,7 @@ impl Server {
                     if !keep_path {
                         call.path = self.any_nodes(yields::inclusion_count(call.place, held.size), random);
                     }
-                    if auditor::page(self.h, record, &call) == 0 {
+                    if auditor::page(self.hashes, self.algorithm, record, &call) == 0 {
                         break;
                     }
                 }
@@ -293,6 +299,23 @@ impl Server {
     fn any_nodes(&self, count: usize, random: &mut Random) -> Vec<u8> {
         (0..count).flat_map(|_| (self.h)(&random.bytes(3))).collect()
     }
+}
+
+/// Calls by one number; before one in nine of them the same call by another number, known or
+/// not. Before the first offer that one is mostly unknown, since by a known number a first head is
+/// accepted, and then every call by the server's number is refused.
+pub fn with_strays(algorithm: u64, calls: Vec<Call>, random: &mut Random) -> Vec<(u64, Call)> {
+    let (mut all, mut is_offered) = (Vec::new(), false);
+    for call in calls {
+        if random.one_in(9) {
+            let is_known = if is_offered { random.one_in(2) } else { random.one_in(20) };
+            let by = if is_known { algorithm::other(algorithm) } else { algorithm::some_unknown(random) };
+            all.push((by, call.clone()));
+        }
+        is_offered |= matches!(call, Call::Offer(_));
+        all.push((algorithm, call));
+    }
+    all
 }
 
 /// A bit changed, bytes lost or bytes more.
@@ -312,8 +335,8 @@ pub fn spoil(bytes: &mut Vec<u8>, random: &mut Random) {
 #[cfg(test)]
 mod tests {
     use super::*;
-    use crate::carry::weak;
-    use crate::sha256::digest;
+    use crate::algorithm::{hash, weak, KNOWN};
+    use crate::auditor::under;
     use crate::verdict::{self, Consistency, Inclusion};
 
     /// An honest server's offers are all accepted, and its pages once a head is held. It
@@ -323,11 +346,11 @@ mod tests {
         let random = &mut Random::new(8);
         let mut met = [0; 3];
         for turn in 0..400 {
-            let h = if turn % 2 == 0 { digest } else { weak };
+            let (hashes, by): (Hashes, u64) = (if turn % 2 == 0 { hash } else { weak }, KNOWN[turn / 2 % 2]);
             let most = LARGEST_SIZE >> random.below(64);
-            let calls = Server::random(h, Kind::Honest, most, random).calls(30, 0, random);
+            let calls = under(by, Server::random(hashes, by, Kind::Honest, most, random).calls(30, 0, random));
             let mut before: Record = None;
-            for (call, (number, after)) in calls.iter().zip(auditor::run(h, &calls)) {
+            for ((_, call), (number, after)) in calls.iter().zip(auditor::run(hashes, &calls)) {
                 match (call, &before) {
                     (Call::Page(_), None) => assert_eq!(number, 14),
                     (Call::Page(_), Some(_)) => assert_eq!(number, 0),
@@ -347,7 +370,7 @@ mod tests {
     fn logs_are_consistent() {
         let random = &mut Random::new(5);
         for turn in 0..200 {
-            let log = Log::random(if turn % 2 == 0 { digest } else { weak }, LARGEST_SIZE >> random.below(64), random);
+            let log = Log::random([hash, weak][turn % 2](KNOWN[turn / 2 % 2]).unwrap(), LARGEST_SIZE >> random.below(64), random);
             for (at, second) in log.sizes.iter().enumerate() {
                 let root = log.root(*second);
                 for (place, page) in log.pages.range(..second) {

@@ -4,6 +4,7 @@
 //! and trees over such leaves. The answers are compared with the second program's
 //! own as they come.
 
+use crate::algorithm::SHA256;
 use crate::first::{self, encode, Fields, EDITION, HEAD, LEAF, RECEIPT};
 use crate::layers::first::{issued, judged_bytes, names, random_fields, read_words, write_words, LAYOUTS};
 use crate::layers::item::ORDER_BY_HAND;
@@ -264,7 +265,7 @@ fn trees() -> Vec<Vec<u8>> {
     for sample in &leaves {
         let whole = &sample.whole;
         for input in [&whole[..], &whole[..whole.len() - 1], &whole[1..], &whole[2..]] {
-            ask("leaf", &[bytes(input)]);
+            ask("leaf", &[number(SHA256), bytes(input)]);
         }
     }
     // Some of each, one after the other.
@@ -273,14 +274,14 @@ fn trees() -> Vec<Vec<u8>> {
         let chosen: Vec<&Sample> = (0..count).map(|i| leaves[(count + i * step) % leaves.len()]).collect();
         let hashes: Vec<[u8; 32]> = chosen.iter().map(|sample| leaf(&sample.whole)).collect();
         let joined = bytes(&hashes.concat());
-        ask("root", &[joined.clone(), repeated(32, 0xee)]);
+        ask("root", &[number(SHA256), joined.clone(), repeated(32, 0xee)]);
         let own_root = root(digest, &hashes);
         for (place, sample) in chosen.iter().enumerate() {
             let own_path = path(digest, place, &hashes).concat();
-            ask("path", &[joined.clone(), number(place as u64), repeated(own_path.len(), 0xee)]);
+            ask("path", &[number(SHA256), joined.clone(), number(place as u64), repeated(own_path.len(), 0xee)]);
             for hash in [hashes[place], leaf(&sample.whole[..sample.whole.len() - 1])] {
                 let (place, size) = (number(place as u64), number(count as u64));
-                ask("inclusion", &[bytes(&hash), place, size, bytes(&own_root), bytes(&own_path)]);
+                ask("inclusion", &[number(SHA256), bytes(&hash), place, size, bytes(&own_root), bytes(&own_path)]);
             }
         }
     }

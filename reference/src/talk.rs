@@ -39,7 +39,11 @@ pub fn talk(program: &str) -> io::Result<()> {
     }
     let status = child.wait()?;
     result?;
-    if status.success() { Ok(()) } else { Err(Error::other(format!("{program} ended with {status}"))) }
+    if status.success() {
+        Ok(())
+    } else {
+        Err(Error::other(format!("{program} ended with {status}")))
+    }
 }
 
 fn converse(input: &mut ChildStdin, answers: &Receiver<Vec<u8>>) -> io::Result<()> {
@@ -48,7 +52,7 @@ fn converse(input: &mut ChildStdin, answers: &Receiver<Vec<u8>>) -> io::Result<(
         input.flush()?;
         expect(line, answers)
     };
-    ask(b"digest x616263\n", input)?;
+    ask(b"digest 0 x616263\n", input)?;
     ask(b"\n", input)?;
     // A byte at a time.
     for byte in b"newer x01 x02\n" {
@@ -56,24 +60,24 @@ fn converse(input: &mut ChildStdin, answers: &Receiver<Vec<u8>>) -> io::Result<(
     }
     expect(b"newer x01 x02\n", answers)?;
     // Two lines and the start of a third at once.
-    input.write_all(b"leaf x\nnothing\nleaf ")?;
-    expect(b"leaf x\n", answers)?;
+    input.write_all(b"leaf 0 x\nnothing\nleaf 240 ")?;
+    expect(b"leaf 0 x\n", answers)?;
     expect(b"nothing\n", answers)?;
     input.write_all(b"x00\n")?;
-    expect(b"leaf x00\n", answers)?;
+    expect(b"leaf 240 x00\n", answers)?;
     // The longest line, and longer ones, each followed by a request.
     for length in [LONGEST_LINE - 1, LONGEST_LINE, LONGEST_LINE + 1, LONGEST_LINE + 2, 2 * LONGEST_LINE + 2, 1_000_000] {
-        let (name, end): (&[u8], &[u8]) = if length % 2 == 0 { (b"digest x", b"\n") } else { (b"digest_into x", b" x\n") };
+        let (name, end): (&[u8], &[u8]) = if length % 2 == 0 { (b"digest 0 x", b"\n") } else { (b"digest_into 0 x", b" x\n") };
         let line = [name, &vec![b'7'; length + 1 - name.len() - end.len()], end].concat();
         ask(&line, input)?;
-        ask(b"leaf x\n", input)?;
+        ask(b"leaf 0 x\n", input)?;
     }
     // Lines that fill the text more than once, in one go.
-    let lines = b"leaf 1000*61\n".repeat(60_000);
+    let lines = b"leaf 0 1000*61\n".repeat(60_000);
     std::thread::scope(|scope| {
         let written = scope.spawn(|| input.write_all(&lines));
         for _ in 0..60_000 {
-            expect(b"leaf 1000*61\n", answers)?;
+            expect(b"leaf 0 1000*61\n", answers)?;
         }
         written.join().expect("a thread that writes")
     })

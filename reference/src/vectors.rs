@@ -1,5 +1,6 @@
-//! Published values of SHA-256, each with its published digest.
+//! Published values of SHA-256 and of SM3, each with its published digest.
 
+use crate::algorithm;
 use crate::words::read_hex;
 
 pub struct Vector {
@@ -30,9 +31,44 @@ impl Vector {
     }
 }
 
-pub fn all() -> impl Iterator<Item = &'static Vector> {
+/// Those of both hashes, each with its hash's number.
+pub fn all() -> impl Iterator<Item = (u64, &'static Vector)> {
+    sha256().map(|vector| (algorithm::SHA256, vector)).chain(SM3.iter().map(|vector| (algorithm::SM3, vector)))
+}
+
+pub fn sha256() -> impl Iterator<Item = &'static Vector> {
     EXAMPLES.iter().chain(ADDITIONAL).chain(SHORT)
 }
+
+/// GB/T 32905-2016, appendix A: `abc`, and 16 times `abcd`. GB/T 32918.2-2016, appendix A: Z of
+/// user A, 212 bytes, and the value e of `message digest` behind it. Then those that OpenSSL has
+/// for the empty string, for one byte, and for a million bytes.
+pub const SM3: &[Vector] = &[
+    v("\"abc", "66c7f0f462eeedd9d1f2d46bdc10e4e24167c4875cf2f7a2297da02b8f4ba8e0"),
+    v(
+        "\"abcdabcdabcdabcdabcdabcdabcdabcdabcdabcdabcdabcdabcdabcdabcdabcd",
+        "debe9ff92275b8a138604889c18e5a4d6fdb70e5387e5765293dcba39c0c5732",
+    ),
+    v(
+        concat!(
+            "0090414c494345313233405941484f4f2e434f4d",
+            "787968b4fa32c3fd2417842e73bbfeff2f3c848b6831d7e0ec65228b3937e498",
+            "63e4c6d3b23b0c849cf84241484bfe48f61d59a5b16ba06e6e12d1da27c5249a",
+            "421debd61b62eab6746434ebc3cc315e32220b3badd50bdc4c4e6c147fedd43d",
+            "0680512bcbb42c07d47349d2153b70c4e5d7fdfcbfa36ea1a85841b9e46e09a2",
+            "0ae4c7798aa0f119471bee11825be46202bb79e2a5844495e97c04ff4df2548a",
+            "7c0240f88f1cd4e16352a73c17b7f16f07353e53a176d684a9fe0c6bb798e857",
+        ),
+        "f4a38489e32b45b6f876e3ac2168ca392362dc8f23459c1d1146fc3dbfb7bc9a",
+    ),
+    v(
+        "f4a38489e32b45b6f876e3ac2168ca392362dc8f23459c1d1146fc3dbfb7bc9a6d65737361676520646967657374",
+        "b524f552cd82b8b028476e005c377fb19a87e6fc682d48bb5d42e3d9b9effe76",
+    ),
+    v("", "1ab21d8355cfa17f8e61194831e81a8f22bec8c728fefb747ed035eb5082aa2b"),
+    v("\"a", "623476ac18f65a2909e43c7fec61b49c7e764a91a18ccb82f1917a29c86c5e88"),
+    v("1000000*61", "c8aaf89429554029e231941a2acc0ad61ff2a5acd8fadd25847a3a732b3b02c3"),
+];
 
 const fn v(text: &'static str, digest: &'static str) -> Vector {
     Vector { text, digest }

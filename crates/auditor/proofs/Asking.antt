@@ -8,7 +8,6 @@ use native.Mathlib.Omega.{arith}
 use lib.Dec.{ltb, eqb}
 use lib.ListN.{length}
 use borrow.Author.Tests.{ltb-true, ltb-false}
-use Rattle.hash.specs.Digest.{sha256}
 use Rattle.octets.specs.Limits.{mostItem}
 use Rattle.hash.specs.Answers.{valueNumber, valueBytes}
 
@@ -21,12 +20,12 @@ refused-1 page n e z = go (ltb mostItem (length page)) refl
     go true t = (t, e ∙ rw t)
     go false t = absurd (z (e ∙ rw t))
 
-pub taken-0 : (page h : List ℕ) (n : ℕ) → n ≡ valueNumber mostItem page → n ≡ 0 → h ≡ valueBytes mostItem page (sha256 (0 ∷ page)) →
-    (ltb mostItem (length page) ≡ false) × (h ≡ sha256 (0 ∷ page))
+pub taken-0 : (H : List ℕ → List ℕ) (page h : List ℕ) (n : ℕ) → n ≡ valueNumber mostItem page → n ≡ 0 → h ≡ valueBytes mostItem page (H (0 ∷ page)) →
+    (ltb mostItem (length page) ≡ false) × (h ≡ H (0 ∷ page))
 unfolding valueNumber valueBytes
-taken-0 page h n e z f = go (ltb mostItem (length page)) refl
+taken-0 H page h n e z f = go (ltb mostItem (length page)) refl
   where
-    go : (b : Bool) → ltb mostItem (length page) ≡ b → (ltb mostItem (length page) ≡ false) × (h ≡ sha256 (0 ∷ page))
+    go : (b : Bool) → ltb mostItem (length page) ≡ b → (ltb mostItem (length page) ≡ false) × (h ≡ H (0 ∷ page))
     go true t = absurd (one-zero (sym (rw t at (sym e ∙ z))))
       where
         one-zero : _≡_ {A = ℕ} 0 1 → ⊥

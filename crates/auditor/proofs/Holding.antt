@@ -1,95 +1,82 @@
--- What an auditor's record holds over every list of calls: the code's answers are the paper's, and the record is the head that was accepted last, which
--- never goes back. Assumes nothing.
-use mathlib.Core.Path.{_≡_, refl, sym, ap, ap₂, subst, _∙_}
+-- What an auditor's record holds over every list of calls: the head that was accepted last, which never goes back. Assumes nothing.
+use mathlib.Core.Path.{_≡_, refl, ap, ap₂, _∙_}
 use mathlib.Core.Bool.{Bool, true, false}
 use mathlib.Core.Logic.{_⊎_, inl, inr}
 use mathlib.Core.List.{List, [], _∷_, _++_, map}
 use Prim.Native.Nat.{ℕ, zero, suc, _^_, _≤_, _<_}
 use native.Mathlib.Omega.{arith}
 use lib.Dec.{ltb, eqb}
-use lib.ListN.{length, drop, replicate}
-use lib.Seq.{take-at}
+use lib.ListN.{length}
 use borrow.Author.Tests.{ltb-false, eqb-true, eqb-false}
-use Rattle.hash.specs.Digest.{sha256}
+use Rattle.hash.specs.Digest.{hashOf}
 use Rattle.octets.specs.Limits.{mostItem}
 use Rattle.tree.specs.Limits.{largestSize}
-use Rattle.octets.specs.Bytes.{over}
 use Rattle.tree.specs.Verdict.{inclusionVerdict, consistencyVerdict}
 use Rattle.tree.proofs.Counting.{bounds}
 use Rattle.tree.proofs.Accepting.{pass, consistency-accepted}
 use Rattle.auditor.specs.declared.Record.{Record}
-use Rattle.auditor.specs.Held.{Held, empty, head, view, emptyRecord, holding}
-use Rattle.auditor.specs.Offer.{offerNumber, kept, keptRecord, offered}
-use Rattle.auditor.specs.Page.{pageNumber, asked}
+use Rattle.auditor.specs.Held.{Held, empty, head, view, emptyRecord}
+use Rattle.auditor.specs.Offer.{kept}
+use Rattle.auditor.specs.Page.{pageNumber}
 use Rattle.auditor.specs.Heads.{Heads, then}
-use Rattle.auditor.specs.Calls.{Call, offer, ask, Entry, answered, called, answers, final, callOf, accepted, paperNumber, paperAfter, run, heads}
+use Rattle.auditor.specs.Calls.{Call, offer, ask, Entry, answered, Numbered, under, plain, called, entry, answers, final, callOf, accepted, paperNumber, paperAfter, run, heads}
 use Rattle.auditor.specs.Timestamps.{OneHeadEach, OneTimestamp}
 use Rattle.auditor.specs.Claims.{lastHead, HeldIsAccepted, RefusedAddNothing, NeverBack}
 use Rattle.auditor.proofs.Offering.{taken}
+use Rattle.auditor.proofs.Numbering.{afterCall, went, stays, view-after, callsOf, one-hash-of, two-accepted, holds-nothing, all-numbered}
 use Rattle.auditor.proofs.Reading.{Fits}
 
--- the code's record after an offer stands for the paper's
-view-kept : (r : Record) (id : List ℕ) (time size : ℕ) (root : List ℕ) (n : ℕ) → view (keptRecord r id time size root n) ≡ kept (view r) id time size root n
-unfolding keptRecord kept view holding over
-view-kept r id time size root zero = ap (λ (x : List ℕ). head x time size root) (take-at id (drop (length id) (replicate 127 0)) (length id) refl)
-view-kept r id time size root (suc n) = refl
+-- an entry of a call
+last-of : (H : List ℕ → List ℕ) (held : Held) (c : Call) (n : ℕ) (es : List Entry) → lastHead (paperAfter H held c n) es ≡ lastHead held (answered c n ∷ es)
+unfolding lastHead paperAfter kept
+last-of H held (offer id time size root path) zero es = refl
+last-of H held (offer id time size root path) (suc n) es = refl
+last-of H held (ask place page path) n es = refl
 
-same-run : (calls : List Call) (r : Record) → answers r calls ≡ run sha256 (view r) calls
-unfolding answers run called offered asked paperNumber paperAfter
-same-run [] r = refl
-same-run (offer id time size root path ∷ calls) r =
-    let n = offerNumber sha256 (view r) id time size root path in
-    ap (λ (es : List Entry). answered (offer id time size root path) n ∷ es)
-    (same-run calls (keptRecord r id time size root n) ∙ ap (λ (held : Held). run sha256 held calls) (view-kept r id time size root n))
-same-run (ask place page path ∷ calls) r =
-    ap (λ (es : List Entry). answered (ask place page path) (pageNumber sha256 (view r) place page path) ∷ es) (same-run calls r)
+-- a refused one
+last-refused : (held : Held) (c : Call) (n : ℕ) (es : List Entry) → lastHead held es ≡ lastHead held (answered c (suc n) ∷ es)
+unfolding lastHead
+last-refused held (offer id time size root path) n es = refl
+last-refused held (ask place page path) n es = refl
 
-view-none : view emptyRecord ≡ empty
+last-step : (r : Record) (n : ℕ) (c : Call) (calls : List (Numbered Call)) →
+    ((s : Record) → view (final s calls) ≡ lastHead (view s) (plain (answers s calls))) → (k : ℕ) → called r (under n c) .number ≡ k →
+    view (final (called r (under n c) .after) calls) ≡ lastHead (view r) (answered c k ∷ plain (answers (called r (under n c) .after) calls))
+last-step r n c calls i zero e =
+    let g = went r n c e in
+    let H = hashOf (g .by) in
+    let s = afterCall n r c 0 in
+    rw (g .next) (i s ∙ ap (λ (v : Held). lastHead v (plain (answers s calls))) (view-after n r c 0 H) ∙ last-of H (view r) c 0 (plain (answers s calls)))
+last-step r n c calls i (suc k) e = rw (stays r (under n c) k e) (i r ∙ last-refused (view r) c k (plain (answers r calls)))
+
+held-last : (calls : List (Numbered Call)) (r : Record) → view (final r calls) ≡ lastHead (view r) (plain (answers r calls))
+unfolding final answers entry plain lastHead
+held-last [] r = refl
+held-last (under n c ∷ calls) r = last-step r n c calls (held-last calls) (called r (under n c) .number) refl
+
+pub view-none : view emptyRecord ≡ empty
 unfolding view emptyRecord
 view-none = refl
 
--- what the code answers from its empty record is what the paper says
-pub same-answers : (calls : List Call) → answers emptyRecord calls ≡ run sha256 empty calls
-same-answers calls = same-run calls emptyRecord ∙ ap (λ (held : Held). run sha256 held calls) view-none
-
--- an entry of an offer
-last-offer : (held : Held) (id : List ℕ) (time size : ℕ) (root path : List ℕ) (n : ℕ) (es : List Entry) → lastHead (kept held id time size root n) es ≡ lastHead held (answered (offer id time size root path) n ∷ es)
-unfolding lastHead kept
-last-offer held id time size root path zero es = refl
-last-offer held id time size root path (suc n) es = refl
-
-held-last : (calls : List Call) (r : Record) → view (final r calls) ≡ lastHead (view r) (answers r calls)
-unfolding final answers called offered asked lastHead
-held-last [] r = refl
-held-last (offer id time size root path ∷ calls) r =
-    let n = offerNumber sha256 (view r) id time size root path in
-    let r₂ = keptRecord r id time size root n in
-    held-last calls r₂ ∙ ap (λ (held : Held). lastHead held (answers r₂ calls)) (view-kept r id time size root n) ∙ last-offer (view r) id time size root path n (answers r₂ calls)
-held-last (ask place page path ∷ calls) r = held-last calls r
-
 pub held-is-accepted : HeldIsAccepted
-held-is-accepted calls = held-last calls emptyRecord ∙ ap (λ (held : Held). lastHead held (answers emptyRecord calls)) view-none
-
--- a call that answers no 0 returns the record that it got
-stays : (r : Record) (c : Call) (n : ℕ) → called r c .number ≡ suc n → called r c .after ≡ r
-unfolding called offered asked keptRecord
-stays r (offer id time size root path) n e = rw e
-stays r (ask place page path) n e = refl
+held-is-accepted calls =
+    (held-last calls emptyRecord ∙ ap (λ (held : Held). lastHead held (plain (answers emptyRecord calls))) view-none, all-numbered calls emptyRecord holds-nothing)
 
 -- a call in front of others of which it is said
-Adds : Record → Record → List Call → List Entry → Type 0
+Adds : Record → Record → List (Numbered Call) → List (Numbered Entry) → Type 0
 Adds r next calls es = (answers r (map callOf es) ≡ es) × (final r (map callOf es) ≡ final next calls)
 
-one-call : (r : Record) (c : Call) (calls : List Call) (n : ℕ) → called r c .number ≡ n → Adds (called r c .after) (called r c .after) calls (accepted (answers (called r c .after) calls)) →
-    Adds r (called r c .after) calls (accepted (answered c n ∷ answers (called r c .after) calls))
-unfolding Adds answers final accepted callOf
-one-call r c calls zero e i = (ap₂ (λ (n : ℕ) (es : List Entry). answered c n ∷ es) e (i .0), i .1)
-one-call r c calls (suc n) e i = let s = stays r c n e in rw s (rw s at i)
+one-call : (r : Record) (n : ℕ) (c : Call) (calls : List (Numbered Call)) (k : ℕ) → called r (under n c) .number ≡ k →
+    Adds (called r (under n c) .after) (called r (under n c) .after) calls (accepted (answers (called r (under n c) .after) calls)) →
+    Adds r (called r (under n c) .after) calls (accepted (under n (answered c k) ∷ answers (called r (under n c) .after) calls))
+unfolding Adds answers entry final accepted callOf
+one-call r n c calls zero e i = (ap₂ (λ (k : ℕ) (es : List (Numbered Entry)). under n (answered c k) ∷ es) e (i .0), i .1)
+one-call r n c calls (suc k) e i = let s = stays r (under n c) k e in rw s (rw s at i)
 
 pub refused-add-nothing : RefusedAddNothing
-unfolding Adds answers final accepted
+unfolding Adds answers entry final accepted
 refused-add-nothing r [] = (refl, refl)
-refused-add-nothing r (c ∷ calls) = one-call r c calls (called r c .number) refl (refused-add-nothing (called r c .after) calls)
+refused-add-nothing r (under n c ∷ calls) = one-call r n c calls (called r (under n c) .number) refl (refused-add-nothing (called r (under n c) .after) calls)
 
 module _ (H : List ℕ → List ℕ) where
   -- each entry's number is what its call answers over the record then held
@@ -206,9 +193,10 @@ module _ (H : List ℕ → List ℕ) where
 
 pub never-back : NeverBack
 unfolding Since
-never-back calls before between rest id₁ id₂ time₁ time₂ size₁ size₂ root₁ root₂ path₁ path₂ e =
-    let s = never sha256 calls before between rest id₁ id₂ time₁ time₂ size₁ size₂ root₁ root₂ path₁ path₂ (sym (same-answers calls) ∙ e) in
-    (s .0, s .1, s .3, later-or-same (eqb time₁ time₂) refl (s .0) (s .2) (s .4))
+never-back calls before between rest n₁ n₂ id₁ id₂ time₁ time₂ size₁ size₂ root₁ root₂ path₁ path₂ e =
+    let u = two-accepted calls before between rest n₁ n₂ (offer id₁ time₁ size₁ root₁ path₁) (offer id₂ time₂ size₂ root₂ path₂) e in
+    let s = never (hashOf (u .alg)) (u .calls) (plain (accepted before)) (plain (accepted between)) (plain (accepted rest)) id₁ id₂ time₁ time₂ size₁ size₂ root₁ root₂ path₁ path₂ (u .as-run) in
+    (u .one-number, s .0, s .1, s .3, later-or-same (eqb time₁ time₂) refl (s .0) (s .2) (s .4))
   where
     later-or-same : (b : Bool) → eqb time₁ time₂ ≡ b → id₁ ≡ id₂ → time₁ ≤ time₂ → (time₁ ≡ time₂ → (size₁ ≡ size₂) × (root₁ ≡ root₂)) → (time₁ < time₂) ⊎ (head id₁ time₁ size₁ root₁ ≡ head id₂ time₂ size₂ root₂)
     later-or-same true q i le h = let t = eqb-true time₁ time₂ q in let k = h t in inr (rw (i, t, k .0, k .1))
@@ -219,5 +207,34 @@ unfolding Since
 each H calls before between rest id₁ id₂ time size₁ size₂ root₁ root₂ path₁ path₂ e =
     never H calls before between rest id₁ id₂ time time size₁ size₂ root₁ root₂ path₁ path₂ e .4 refl
 
+-- the accepted ones of entries without numbers
+took : List Entry → List Entry
+took [] = []
+took (answered c zero ∷ es) = answered c zero ∷ took es
+took (answered c (suc n) ∷ es) = took es
+
+took-plain : (es : List (Numbered Entry)) → plain (accepted es) ≡ took (plain es)
+unfolding took plain accepted
+took-plain [] = refl
+took-plain (under n (answered c zero) ∷ es) = ap (λ (l : List Entry). answered c zero ∷ l) (took-plain es)
+took-plain (under n (answered c (suc k)) ∷ es) = took-plain es
+
+took-append : (x y : List Entry) → took (x ++ y) ≡ took x ++ took y
+unfolding took
+took-append [] y = refl
+took-append (answered c zero ∷ x) y = ap (λ (l : List Entry). answered c zero ∷ l) (took-append x y)
+took-append (answered c (suc n) ∷ x) y = took-append x y
+
+took-two : (x y z : List Entry) (c d : Call) → took (x ++ (answered c 0 ∷ (y ++ (answered d 0 ∷ z)))) ≡ took x ++ (answered c 0 ∷ (took y ++ (answered d 0 ∷ took z)))
+unfolding took
+took-two x y z c d = took-append x (answered c 0 ∷ (y ++ (answered d 0 ∷ z))) ∙ ap (λ (l : List Entry). took x ++ (answered c 0 ∷ l)) (took-append y (answered d 0 ∷ z))
+
 pub one-timestamp : OneTimestamp
-one-timestamp = (each, λ calls. subst OneHeadEach (sym (same-answers calls)) (each sha256 calls))
+one-timestamp = (each, of-code)
+  where
+    of-code : (calls : List (Numbered Call)) → OneHeadEach (plain (answers emptyRecord calls))
+    of-code calls before between rest id₁ id₂ time size₁ size₂ root₁ root₂ path₁ path₂ e =
+        let u = one-hash-of calls in
+        let es = answers emptyRecord calls in
+        each (hashOf (u .alg)) (callsOf es) (took before) (took between) (took rest) id₁ id₂ time size₁ size₂ root₁ root₂ path₁ path₂
+        (u .runs .one-run ∙ took-plain es ∙ ap took e ∙ took-two before between rest (offer id₁ time size₁ root₁ path₁) (offer id₂ time size₂ root₂ path₂))

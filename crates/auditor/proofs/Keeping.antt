@@ -10,7 +10,8 @@ use lib.Dec.{ltb, eqb}
 use lib.ListN.{length, take, drop, length-append}
 use lib.Seq.{take-at, drop-at, drop-drop, length-take-le}
 use borrow.Author.Tests.{eqb-true, eqb-false}
-use Rattle.hash.specs.Digest.{sha256}
+use Rattle.hash.specs.Algorithm.{algorithmOf}
+use Rattle.hash.specs.Digest.{hashOf}
 use Rattle.tree.specs.Limits.{mostNodes}
 use Rattle.tree.specs.Build.{Outcome, refused, wrote, into}
 use Rattle.octets.proofs.Order.{lt-or-ge}
@@ -23,16 +24,17 @@ use Rattle.octets.proofs.Numbers.{be-length}
 use Rattle.octets.proofs.Putting.{put-length}
 use Rattle.auditor.specs.declared.Record.{Record}
 use Rattle.auditor.specs.Held.{Held, empty, head, view, emptyRecord}
-use Rattle.auditor.specs.Offer.{outside, first, byRecord, offerNumber, keptRecord, offered}
-use Rattle.auditor.specs.Page.{pageNumber, asked}
+use Rattle.auditor.specs.Offer.{outside, first, byRecord, offerNumber}
+use Rattle.auditor.specs.Page.{pageNumber}
 use Rattle.auditor.specs.Heads.{Heads, end, then, lastSize, lastRoot, joinedHeads, headsOf, howMany}
 use Rattle.auditor.specs.Journal.{mostCount, append, appendReport, journalAfter}
-use Rattle.auditor.specs.Calls.{Call, offer, ask, Entry, answered, called, answers, final, heads}
+use Rattle.auditor.specs.Calls.{Call, offer, ask, Entry, answered, Numbered, under, plain, called, entry, answers, final, paperNumber, heads}
 use Rattle.auditor.specs.Claims.{lastHead}
-use Rattle.auditor.specs.Dispute.{dispute, disputeReport, pairDisputed}
-use Rattle.auditor.specs.Demand.{Settles}
+use Rattle.auditor.specs.Dispute.{disputeReport, pairDisputed, disputeBy}
+use Rattle.auditor.specs.Demand.{Settles, OfHash}
 use Rattle.auditor.specs.Keeping.{kept, lost, noted, ifKept, journaled, Joins, JournalJoins, AppendedReadsBack, longestHead, LongEnough, AsKept}
 use Rattle.auditor.proofs.Offering.{passed, taken, view-held, view-empty}
+use Rattle.auditor.proofs.Numbering.{went}
 use Rattle.auditor.proofs.Holding.{held-is-accepted}
 use Rattle.auditor.proofs.Journaling.{one-head, head-length, root-short, path-long, path-part, fits}
 use Rattle.auditor.proofs.Reading.{heads-end, one-back}
@@ -160,23 +162,23 @@ record Short (root path : List ℕ) : Type 0 where
   whole : length path % 32 ≡ 0
   few : length path ≤ 32 * (mostNodes + 1)
 
-few-by : (held : Held) (id : List ℕ) (time size : ℕ) (root path : List ℕ) → offerNumber sha256 held id time size root path ≡ 0 → length path ≤ 32 * (mostNodes + 1)
+few-by : (H : List ℕ → List ℕ) (held : Held) (id : List ℕ) (time size : ℕ) (root path : List ℕ) → offerNumber H held id time size root path ≡ 0 → length path ≤ 32 * (mostNodes + 1)
 unfolding byRecord first
-few-by empty id time size root path e = by-length (eqb (length path) 0) refl (pass (outside size) 5 _ (passed sha256 empty id time size root path e .by-record) .1)
+few-by H empty id time size root path e = by-length (eqb (length path) 0) refl (pass (outside size) 5 _ (passed H empty id time size root path e .by-record) .1)
   where
     by-length : (b : Bool) → eqb (length path) 0 ≡ b → _≡_ {A = ℕ} (cond b 0 7) 0 → length path ≤ 32 * (mostNodes + 1)
     by-length true f g = let z = eqb-true (length path) 0 f in omega arith
     by-length false f g = absurd (omega arith)
-few-by (head id₀ time₀ size₀ root₀) id time size root path e =
-    let c = consistency-accepted sha256 size₀ size root₀ root path (taken sha256 id₀ time₀ size₀ root₀ id time size root path e .consistent) in
+few-by H (head id₀ time₀ size₀ root₀) id time size root path e =
+    let c = consistency-accepted H size₀ size root₀ root path (taken H id₀ time₀ size₀ root₀ id time size root path e .consistent) in
     let b = bounds .consistency-largest size₀ size (c .some) (c .order) (c .in-range) in
     let k = c .counted in
     omega arith
 
-short-head : (held : Held) (id : List ℕ) (time size : ℕ) (root path : List ℕ) → offerNumber sha256 held id time size root path ≡ 0 → Short root path
-short-head held id time size root path e =
-    let p = passed sha256 held id time size root path e in
-    record { root-32 = p .root-32; whole = p .path-whole; few = few-by held id time size root path e }
+short-head : (H : List ℕ → List ℕ) (held : Held) (id : List ℕ) (time size : ℕ) (root path : List ℕ) → offerNumber H held id time size root path ≡ 0 → Short root path
+short-head H held id time size root path e =
+    let p = passed H held id time size root path e in
+    record { root-32 = p .root-32; whole = p .path-whole; few = few-by H held id time size root path e }
 
 -- the rest is not refused, whatever number the first call answered
 goes-on : (entries : List Entry) (id : List ℕ) (time size : ℕ) (root path lent : List ℕ) (start number : ℕ) → (number ≡ 0 → Short root path) →
@@ -195,25 +197,26 @@ goes-on entries id time size root path lent start zero s h i n e =
 goes-on entries id time size root path lent start (suc number) s h i n e = i lent start h n e
 
 pub long-enough : LongEnough
-unfolding answers called offered asked journaled heads howMany
+unfolding answers entry plain journaled heads howMany paperNumber
 long-enough r [] lent start h n e = no-lost lent start n (sym e)
-long-enough r (offer id time size root path ∷ calls) lent start h n e =
-    let number = offerNumber sha256 (view r) id time size root path in
-    goes-on (answers (keptRecord r id time size root number) calls) id time size root path lent start number (short-head (view r) id time size root path) h
-    (λ l s g. long-enough (keptRecord r id time size root number) calls l s g) n e
-long-enough r (ask place page path ∷ calls) lent start h n e = long-enough r calls lent start h n e
+long-enough r (under m (offer id time size root path) ∷ calls) lent start h n e =
+    let o = called r (under m (offer id time size root path)) in
+    goes-on (plain (answers (o .after) calls)) id time size root path lent start (o .number)
+    (λ z. let g = went r m (offer id time size root path) z in short-head (hashOf (g .by)) (view r) id time size root path (g .accepts)) h
+    (λ l s g. long-enough (o .after) calls l s g) n e
+long-enough r (under m (ask place page path) ∷ calls) lent start h n e = long-enough (called r (under m (ask place page path)) .after) calls lent start h n e
 
 -- ---- the third demand of what is kept
 
-answers-append : (r : Record) (xs ys : List Call) → answers r (xs ++ ys) ≡ answers r xs ++ answers (final r xs) ys
+answers-append : (r : Record) (xs ys : List (Numbered Call)) → answers r (xs ++ ys) ≡ answers r xs ++ answers (final r xs) ys
 unfolding answers final
 answers-append r [] ys = refl
-answers-append r (c ∷ xs) ys = ap (λ (es : List Entry). answered c (called r c .number) ∷ es) (answers-append (called r c .after) xs ys)
+answers-append r (c ∷ xs) ys = ap (λ (es : List (Numbered Entry)). entry c (called r c .number) ∷ es) (answers-append (called r c .after) xs ys)
 
 -- a record under which a page was accepted holds the size and root of the last accepted head
-agreed : (r : Record) (place : ℕ) (page path : List ℕ) (held : Held) (m : ℕ) (s : List ℕ) → view r ≡ held → Agrees held m s → pageNumber sha256 (view r) place page path ≡ 0 → (r .size ≡ m) × (r .root ≡ s)
+agreed : (H : List ℕ → List ℕ) (r : Record) (place : ℕ) (page path : List ℕ) (held : Held) (m : ℕ) (s : List ℕ) → view r ≡ held → Agrees held m s → pageNumber H (view r) place page path ≡ 0 → (r .size ≡ m) × (r .root ≡ s)
 unfolding Agrees pageNumber
-agreed r place page path held m s v a e = go (r .held) refl
+agreed H r place page path held m s v a e = go (r .held) refl
   where
     go : (b : Bool) → r .held ≡ b → (r .size ≡ m) × (r .root ≡ s)
     go true t = rw (sym v ∙ view-held r t) at a
@@ -222,28 +225,34 @@ agreed r place page path held m s v a e = go (r .held) refl
         fourteen : _≡_ {A = ℕ} 14 0 → ⊥
         fourteen z = omega arith
 
--- a dispute over this size, this root and these joined heads settles two pages
-abbrev By : List ℕ → ℕ → List ℕ → List ℕ → List ℕ → List ℕ → ℕ → List ℕ → List ℕ → Type 0
-By page₁ place path₁ page₂ path₂ pair size root joined =
-    (let d = dispute sha256 page₁ place path₁ size root (headsOf joined) page₂ path₂ (length pair) in
-    Settles page₁ page₂ (disputeReport d) (pairDisputed d pair))
+-- a dispute by this number over this size, this root and these joined heads settles two pages
+abbrev SettledBy : ℕ → List ℕ → ℕ → List ℕ → List ℕ → List ℕ → List ℕ → ℕ → List ℕ → List ℕ → Type 0
+SettledBy n page₁ place path₁ page₂ path₂ pair size root joined =
+    (let d = disputeBy n page₁ place path₁ size root (headsOf joined) page₂ path₂ (length pair) in
+    OfHash (algorithmOf n) (λ H. Settles H page₁ page₂ (disputeReport d) (pairDisputed d pair)))
 
-settles-by : (page₁ : List ℕ) (place : ℕ) (path₁ page₂ path₂ pair : List ℕ) (m n : ℕ) (r s h k : List ℕ) → m ≡ n → r ≡ s → h ≡ k →
-    By page₁ place path₁ page₂ path₂ pair n s k → By page₁ place path₁ page₂ path₂ pair m r h
-settles-by page₁ place path₁ page₂ path₂ pair m n r s h k e f g w = rw (e, f, g) w
+settles-by : (n : ℕ) (page₁ : List ℕ) (place : ℕ) (path₁ page₂ path₂ pair : List ℕ) (k l : ℕ) (r s h j : List ℕ) → k ≡ l → r ≡ s → h ≡ j →
+    SettledBy n page₁ place path₁ page₂ path₂ pair l s j → SettledBy n page₁ place path₁ page₂ path₂ pair k r h
+settles-by n page₁ place path₁ page₂ path₂ pair k l r s h j e f g w = rw (e, f, g) w
 
 pub as-kept : AsKept
-unfolding answers called asked Agrees
-as-kept earlier between place page₁ path₁ page₂ path₂ lent bytes used pair a j b enough =
+unfolding answers entry Agrees paperNumber
+as-kept earlier between n₁ n₂ place page₁ path₁ page₂ path₂ lent bytes used pair a j b enough =
     let held = final emptyRecord earlier in
     let before = answers emptyRecord earlier in
-    let since = answers held between in
-    let one = answered (ask place page₁ path₁) 0 in
-    let two = answered (ask place page₂ path₂) 0 in
-    let calls = earlier ++ (ask place page₁ path₁ ∷ (between ++ (ask place page₂ path₂ ∷ []))) in
-    let e : answers emptyRecord calls ≡ before ++ (one ∷ (since ++ (two ∷ []))) =
-    answers-append emptyRecord earlier (ask place page₁ path₁ ∷ (between ++ (ask place page₂ path₂ ∷ [])))
-    ∙ rw (a, answers-append held between (ask place page₂ path₂ ∷ []), b) in
-    let g = agreed held place page₁ path₁ (lastHead empty before) (lastSize 0 (heads before)) (lastRoot [] (heads before)) (held-is-accepted earlier) (agrees before empty 0 [] tt) a in
-    settles-by page₁ place path₁ page₂ path₂ pair (held .size) (lastSize 0 (heads before)) (held .root) (lastRoot [] (heads before)) (take used bytes) (joinedHeads (heads since))
-    (g .0) (g .1) (journal-joins since lent bytes 0 used j .heads-joined) (demand3 calls before since [] place page₁ path₁ page₂ path₂ pair e enough)
+    let c₁ = under n₁ (ask place page₁ path₁) in
+    let c₂ = under n₂ (ask place page₂ path₂) in
+    let next = called held c₁ .after in
+    let since = answers next between in
+    let calls = earlier ++ (c₁ ∷ (between ++ (c₂ ∷ []))) in
+    let e : answers emptyRecord calls ≡ before ++ (under n₁ (answered (ask place page₁ path₁) 0) ∷ (since ++ (under n₂ (answered (ask place page₂ path₂) 0) ∷ []))) =
+    answers-append emptyRecord earlier (c₁ ∷ (between ++ (c₂ ∷ [])))
+    ∙ rw (a, answers-append next between (c₂ ∷ []), b) in
+    let g = went held n₁ (ask place page₁ path₁) a in
+    let h = agreed (hashOf (g .by)) held place page₁ path₁ (lastHead empty (plain before)) (lastSize 0 (heads (plain before))) (lastRoot [] (heads (plain before))) (held-is-accepted earlier .0)
+    (agrees (plain before) empty 0 [] tt) (g .accepts) in
+    let d = demand3 calls before since [] n₁ n₂ place page₁ path₁ page₂ path₂ pair e enough in (
+      d .0,
+      settles-by n₁ page₁ place path₁ page₂ path₂ pair (held .size) (lastSize 0 (heads (plain before))) (held .root) (lastRoot [] (heads (plain before))) (take used bytes) (joinedHeads (heads (plain since)))
+          (h .0) (h .1) (journal-joins (plain since) lent bytes 0 used j .heads-joined) (d .1),
+    )

@@ -7,6 +7,8 @@ pub mod Journaling
 pub mod Reporting
 pub mod Following
 pub mod Disputing
+mod Choosing
+pub mod Numbering
 pub mod Holding
 pub mod Settling
 pub mod Keeping

@@ -7,7 +7,6 @@ use native.Mathlib.Omega.{arith}
 use lib.Dec.{ltb, eqb}
 use lib.ListN.{length, replicate}
 use borrow.Author.Tests.{eq-eqb, le-ltb, ltb-false, eqb-true, not-false}
-use Rattle.hash.specs.Digest.{sha256}
 use Rattle.octets.specs.Bytes.{same, over}
 use Rattle.tree.specs.Verdict.{consistencyVerdict}
 use Rattle.tree.proofs.Accepting.{pass}
@@ -15,7 +14,7 @@ use Rattle.octets.proofs.Sameness.{same-true, same-of}
 use Rattle.auditor.specs.declared.Record.{Record}
 use Rattle.auditor.specs.declared.Answered.{Answered}
 use Rattle.auditor.specs.Held.{Held, empty, head, idOf, view, holding}
-use Rattle.auditor.specs.Offer.{outside, stale, against, byRecord, offerNumber, keptRecord, offered}
+use Rattle.auditor.specs.Offer.{outside, stale, against, byRecord, offerNumber, keptRecord, offeredOver}
 
 -- what a record stands for
 pub view-held : (r : Record) → r .held ≡ true → view r ≡ head (idOf r) (r .timestamp) (r .size) (r .root)
@@ -135,17 +134,17 @@ module _ (H : List ℕ → List ℕ) (id₀ : List ℕ) (time₀ size₀ : ℕ) 
   unfolding byRecord
   taken e = by-tests (passed H (head id₀ time₀ size₀ root₀) id time size root path e .by-record)
 
--- the answer of an offer with its number n
-module _ (r : Record) (id : List ℕ) (time size : ℕ) (root path : List ℕ) (n : ℕ) (e : n ≡ offerNumber sha256 (view r) id time size root path) where
-  pub reports-refused : (n ≡ 0 → ⊥) → record { number = n; after = r } ≡ offered r id time size root path
-  unfolding offered keptRecord
-  reports-refused z = go n z e
+-- the answer of an offer with its number k, under the hash H with the number n
+module _ (H : List ℕ → List ℕ) (n : ℕ) (r : Record) (id : List ℕ) (time size : ℕ) (root path : List ℕ) (k : ℕ) (e : k ≡ offerNumber H (view r) id time size root path) where
+  pub reports-refused : (k ≡ 0 → ⊥) → record { number = k; after = r } ≡ offeredOver H n r id time size root path
+  unfolding offeredOver keptRecord
+  reports-refused z = go k z e
     where
-      go : (m : ℕ) → (m ≡ 0 → ⊥) → m ≡ offerNumber sha256 (view r) id time size root path → record { number = m; after = r } ≡ offered r id time size root path
+      go : (m : ℕ) → (m ≡ 0 → ⊥) → m ≡ offerNumber H (view r) id time size root path → record { number = m; after = r } ≡ offeredOver H n r id time size root path
       go zero z f = absurd (z refl)
-      go (suc m) z f = ap (λ (k : ℕ). record { number = k; after = keptRecord r id time size root k }) f
+      go (suc m) z f = ap (λ (j : ℕ). record { number = j; after = keptRecord n r id time size root j }) f
 
-  pub reports-accepted : (a b : List ℕ) (l : ℕ) → n ≡ 0 → a ≡ over id (replicate 127 0) → b ≡ root → l ≡ length id →
-      record { number = 0; after = record { held = true; id = a; idlen = l; timestamp = time; size = size; root = b } } ≡ offered r id time size root path
-  unfolding offered keptRecord holding
-  reports-accepted a b l z f g h = rw (f, g, h) (ap (λ (k : ℕ). record { number = k; after = keptRecord r id time size root k }) (sym z ∙ e))
+  pub reports-accepted : (a b : List ℕ) (l : ℕ) → k ≡ 0 → a ≡ over id (replicate 127 0) → b ≡ root → l ≡ length id →
+      record { number = 0; after = record { held = true; algorithm = n; id = a; idlen = l; timestamp = time; size = size; root = b } } ≡ offeredOver H n r id time size root path
+  unfolding offeredOver keptRecord holding
+  reports-accepted a b l z f g h = rw (f, g, h) (ap (λ (j : ℕ). record { number = j; after = keptRecord n r id time size root j }) (sym z ∙ e))

@@ -9,9 +9,13 @@ use lib.Dec.{eqb}
 use lib.ListN.{length, take, drop, getD, length-take, length-map, take-append-drop}
 use lib.Seq.{take-at, take-take, getD-take}
 use borrow.Author.Tests.{le-ltb, eq-eqb, ne-eqb, eqb-true}
-use Rattle.hash.specs.Digest.{sha256}
+use Rattle.hash.specs.declared.Algorithm.{Algorithm}
+use Rattle.hash.specs.declared.Named.the-variants.{By}
+use Rattle.hash.specs.Algorithm.{numberOf, algorithmOf}
+use Rattle.hash.specs.Digest.{hashOf}
 use Rattle.octets.specs.Limits.{mostItem}
-use Rattle.hash.proofs.Promises.{sha256-length}
+use Rattle.hash.proofs.Promises.{hash-length, numbers}
+use Rattle.hash.proofs.Algorithms.{by-known}
 use Rattle.tree.specs.Limits.{largestSize}
 use Rattle.tree.specs.Tree.{leaf, root, path, consistency}
 use Rattle.octets.specs.Bytes.{same, joined}
@@ -33,13 +37,14 @@ use Rattle.auditor.specs.Held.{Held, empty, head, emptyRecord}
 use Rattle.auditor.specs.Offer.{outside, first, against, byRecord, offerNumber, kept}
 use Rattle.auditor.specs.Page.{pageNumber}
 use Rattle.auditor.specs.Heads.{Heads, lastSize, lastRoot, joinedHeads, headsOf}
-use Rattle.auditor.specs.Dispute.{Finding, alike, longestPath, Ruling, disputeReport, onward, settled, follow, dispute}
-use Rattle.auditor.specs.Calls.{Call, offer, ask, Entry, answered, answers, paperNumber, paperAfter, run, heads}
+use Rattle.auditor.specs.Dispute.{Finding, alike, longestPath, Ruling, disputeReport, onward, settled, follow, dispute, disputeBy}
+use Rattle.auditor.specs.Calls.{Call, offer, ask, Entry, answered, Numbered, under, plain, answers, paperNumber, paperAfter, run, heads}
 use Rattle.growing.proofs.Calling.{follows-all}
 use Rattle.auditor.specs.Claims.{leaves, Served, HonestLog, GrownHeads}
 use Rattle.auditor.proofs.Offering.{as-earlier}
 use Rattle.auditor.proofs.Reading.{read-back}
-use Rattle.auditor.proofs.Holding.{same-answers, heads-fit}
+use Rattle.auditor.proofs.Numbering.{free-choice, holds-nothing, plain-append, all-own}
+use Rattle.auditor.proofs.Holding.{view-none, heads-fit}
 
 -- ---- what is accepted
 
@@ -105,77 +110,77 @@ taken-joined n l a h =
     let i : length (take n l) ≡ n = simp length-take (omega arith) in
     ap (take (32 * n)) e ∙ take-at (joined (take n l)) (joined (drop n l)) (32 * n) (omega arith)
 
-module _ (id : List ℕ) (pages : List (List ℕ)) (all : length pages ≤ largestSize) where
+module _ (H : List ℕ → List ℕ) (H32 : (s : List ℕ) → length (H s) ≡ 32) (id : List ℕ) (pages : List (List ℕ)) (all : length pages ≤ largestSize) where
   abbrev hashes : List (List ℕ)
-  hashes = map (leaf sha256) pages
+  hashes = map (leaf H) pages
 
   -- the root of the first n, and the path of a place among them
   rootAt : ℕ → List ℕ
-  rootAt n = root sha256 (nodes (leaves id pages n))
+  rootAt n = root H (nodes (leaves H id pages n))
 
   own : ℕ → ℕ → List ℕ
-  own n place = joined (path sha256 place (nodes (leaves id pages n)))
+  own n place = joined (path H place (nodes (leaves H id pages n)))
 
   -- and from the first m to the first n
   since : ℕ → ℕ → List ℕ
-  since m n = joined (consistency sha256 m (nodes (leaves id pages n)))
+  since m n = joined (consistency H m (nodes (leaves H id pages n)))
 
   root-at-32 : (n : ℕ) → length (rootAt n) ≡ 32
   unfolding rootAt
-  root-at-32 n = root-32 sha256 sha256-length (nodes (leaves id pages n)) (all-nodes (leaves id pages n))
+  root-at-32 n = root-32 H H32 (nodes (leaves H id pages n)) (all-nodes (leaves H id pages n))
 
   hashes-32 : All32 hashes
-  hashes-32 = all-leaves sha256 sha256-length pages
+  hashes-32 = all-leaves H H32 pages
 
   module _ (n : ℕ) (le : n ≤ length pages) where
-    leaves-nodes : nodes (leaves id pages n) ≡ take n hashes
+    leaves-nodes : nodes (leaves H id pages n) ≡ take n hashes
     unfolding leaves
     leaves-nodes =
-        let k = length-map pages (leaf sha256) in
+        let k = length-map pages (leaf H) in
         ap nodes (taken-joined n hashes hashes-32 (omega arith)) ∙ nodes-joined (take n hashes) (all-take n hashes hashes-32)
 
     leaves-count : length (take n hashes) ≡ n
-    leaves-count = let k = length-map pages (leaf sha256) in simp length-take (omega arith)
+    leaves-count = let k = length-map pages (leaf H) in simp length-take (omega arith)
 
-    own-accepted : (place : ℕ) → place < n → inclusionVerdict sha256 (sha256 (0 ∷ getD pages place [])) place n (rootAt n) (own n place) ≡ 0
+    own-accepted : (place : ℕ) → place < n → inclusionVerdict H (H (0 ∷ getD pages place [])) place n (rootAt n) (own n place) ≡ 0
     unfolding rootAt own
     own-accepted place h =
-        let k = length-map pages (leaf sha256) in
-        ap₂ (λ (x : List ℕ) (l : List (List ℕ)). inclusionVerdict sha256 x place n (root sha256 l) (joined (path sha256 place l))) (sym (leaf-at sha256 pages place (omega arith))) leaves-nodes
-        ∙ own-inclusion sha256 sha256-length hashes hashes-32 n place h (omega arith) (omega arith)
+        let k = length-map pages (leaf H) in
+        ap₂ (λ (x : List ℕ) (l : List (List ℕ)). inclusionVerdict H x place n (root H l) (joined (path H place l))) (sym (leaf-at H pages place (omega arith))) leaves-nodes
+        ∙ own-inclusion H H32 hashes hashes-32 n place h (omega arith) (omega arith)
 
     own-short : (place : ℕ) → place < n → length (own n place) ≤ longestPath
     own-short place h =
-        let c = inclusion-accepted sha256 (sha256 (0 ∷ getD pages place [])) place n (rootAt n) (own n place) (own-accepted place h) .counted in
+        let c = inclusion-accepted H (H (0 ∷ getD pages place [])) place n (rootAt n) (own n place) (own-accepted place h) .counted in
         let k = bounds .inclusion-largest place n h (omega arith) in
         omega arith
 
   -- two sizes
   module _ (m n : ℕ) (some : 0 < m) (order : m ≤ n) (le : n ≤ length pages) where
-    first-nodes : nodes (leaves id pages m) ≡ take m (take n hashes)
+    first-nodes : nodes (leaves H id pages m) ≡ take m (take n hashes)
     first-nodes = leaves-nodes m (omega arith) ∙ sym (take-take m n hashes order)
 
-    consistent : consistencyVerdict sha256 m n (rootAt m) (rootAt n) (since m n) ≡ 0
+    consistent : consistencyVerdict H m n (rootAt m) (rootAt n) (since m n) ≡ 0
     unfolding rootAt since
     consistent =
         let c = leaves-count n le in
         let l = take n hashes in
-        ap₂ (λ (a b : List (List ℕ)). consistencyVerdict sha256 m n (root sha256 a) (root sha256 b) (joined (consistency sha256 m b))) first-nodes (leaves-nodes n le)
-        ∙ ap (λ (i : ℕ). consistencyVerdict sha256 m i (root sha256 (take m l)) (root sha256 l) (joined (consistency sha256 m l))) (sym c)
-        ∙ own-consistency sha256 sha256-length l (all-take n hashes hashes-32) m 0 some (omega arith) (omega arith)
+        ap₂ (λ (a b : List (List ℕ)). consistencyVerdict H m n (root H a) (root H b) (joined (consistency H m b))) first-nodes (leaves-nodes n le)
+        ∙ ap (λ (i : ℕ). consistencyVerdict H m i (root H (take m l)) (root H l) (joined (consistency H m l))) (sym c)
+        ∙ own-consistency H H32 l (all-take n hashes hashes-32) m 0 some (omega arith) (omega arith)
 
     -- the path of a place is carried to its path in the longer list
     carried-on : (place pair : ℕ) → place < m → pairBytes ≤ pair →
-        carry sha256 (sha256 (0 ∷ getD pages place [])) place m n (rootAt m) (rootAt n) (own m place) (since m n) longestPath pair ≡ carried (own n place)
+        carry H (H (0 ∷ getD pages place [])) place m n (rootAt m) (rootAt n) (own m place) (since m n) longestPath pair ≡ carried (own n place)
     unfolding rootAt own since
     carried-on place pair h long =
         let c = leaves-count n le in
         let l = take n hashes in
-        let leaf₀ : sha256 (0 ∷ getD pages place []) ≡ getD l place [] = sym (getD-take n hashes place [] (omega arith) ∙ leaf-at sha256 pages place (omega arith)) in
-        let short : length (joined (path sha256 place l)) ≤ longestPath = let s = own-short n le place (omega arith) in rw (leaves-nodes n le) at s in
+        let leaf₀ : H (0 ∷ getD pages place []) ≡ getD l place [] = sym (getD-take n hashes place [] (omega arith) ∙ leaf-at H pages place (omega arith)) in
+        let short : length (joined (path H place l)) ≤ longestPath = let s = own-short n le place (omega arith) in rw (leaves-nodes n le) at s in
         rw (leaf₀, first-nodes, leaves-nodes n le)
-        (ap (λ (i : ℕ). carry sha256 (getD l place []) place m i (root sha256 (take m l)) (root sha256 l) (joined (path sha256 place (take m l))) (joined (consistency sha256 m l)) longestPath pair) (sym c)
-        ∙ own-carried sha256 sha256-length l (all-take n hashes hashes-32) m place h (omega arith) (omega arith) longestPath pair short long)
+        (ap (λ (i : ℕ). carry H (getD l place []) place m i (root H (take m l)) (root H l) (joined (path H place (take m l))) (joined (consistency H m l)) longestPath pair) (sym c)
+        ∙ own-carried H H32 l (all-take n hashes hashes-32) m place h (omega arith) (omega arith) longestPath pair short long)
 
   -- the record of a size and a timestamp
   heldAt : ℕ → ℕ → Held
@@ -201,7 +206,7 @@ module _ (id : List ℕ) (pages : List (List ℕ)) (all : length pages ≤ large
   Good m (answered (ask place item w) zero ∷ es) = OwnPage m place item w × Good m es
   Good m (answered (ask place item w) (suc k) ∷ es) = ⊥
 
-  good : {m t : ℕ} {calls : List Call} → Served id pages m t calls → m ≤ length pages → Good m (map (λ (c : Call). answered c 0) calls)
+  good : {m t : ℕ} {calls : List Call} → Served H id pages m t calls → m ≤ length pages → Good m (map (λ (c : Call). answered c 0) calls)
   unfolding Good NewHead OwnPage rootAt own since
   good Served.done h = tt
   good (Served.first some le s) h = ((omega arith, some, le, refl, λ z. absurd (omega arith)), good s le)
@@ -220,37 +225,37 @@ module _ (id : List ℕ) (pages : List (List ℕ)) (all : length pages ≤ large
   after-some (answered (ask place item w) (suc j) ∷ es) fs m r le k g = absurd g
 
   module _ (least : 2 ≤ length id) (most : length id ≤ 127) (items : (i : ℕ) → length (getD pages i []) ≤ mostItem) where
-    accepts : {m t : ℕ} {calls : List Call} → Served id pages m t calls → m ≤ length pages → run sha256 (heldAt m t) calls ≡ map (λ (c : Call). answered c 0) calls
+    accepts : {m t : ℕ} {calls : List Call} → Served H id pages m t calls → m ≤ length pages → run H (heldAt m t) calls ≡ map (λ (c : Call). answered c 0) calls
     unfolding heldAt rootAt own since paperNumber paperAfter kept run
     accepts Served.done h = refl
     accepts (Served.first {n = n} {time = time} {calls = calls} some le s) h =
-        goes-on sha256 (offer id time n (rootAt n) []) empty (heldAt n time) calls (map (λ (c : Call). answered c 0) calls) (takes-first sha256 id least most time n (rootAt n) (root-at-32 n) some (omega arith)) (sym (held-at n time some)) (accepts s le)
+        goes-on H (offer id time n (rootAt n) []) empty (heldAt n time) calls (map (λ (c : Call). answered c 0) calls) (takes-first H id least most time n (rootAt n) (root-at-32 n) some (omega arith)) (sym (held-at n time some)) (accepts s le)
     accepts (Served.later {m = m} {t = t} {n = n} {time = time} {calls = calls} some order le later s) h =
         let v = consistent m n some order le in
-        let c = consistency-accepted sha256 m n (rootAt m) (rootAt n) (since m n) v .counted in
-        ap (λ (held : Held). run sha256 held (offer id time n (rootAt n) (since m n) ∷ calls)) (held-at m t some)
-        ∙ goes-on sha256 (offer id time n (rootAt n) (since m n)) (head id t m (rootAt m)) (heldAt n time) calls (map (λ (c : Call). answered c 0) calls)
-        (takes-later sha256 id least most time n (rootAt n) (root-at-32 n) (omega arith) (omega arith) t m (rootAt m) (since m n) (omega arith) order (no-earlier later) (λ q. let k = again later q in (k, ap rootAt k)) (λ q. ap rootAt q) ∙ v)
+        let c = consistency-accepted H m n (rootAt m) (rootAt n) (since m n) v .counted in
+        ap (λ (held : Held). run H held (offer id time n (rootAt n) (since m n) ∷ calls)) (held-at m t some)
+        ∙ goes-on H (offer id time n (rootAt n) (since m n)) (head id t m (rootAt m)) (heldAt n time) calls (map (λ (c : Call). answered c 0) calls)
+        (takes-later H id least most time n (rootAt n) (root-at-32 n) (omega arith) (omega arith) t m (rootAt m) (since m n) (omega arith) order (no-earlier later) (λ q. let k = again later q in (k, ap rootAt k)) (λ q. ap rootAt q) ∙ v)
         (sym (held-at n time (omega arith))) (accepts s le)
     accepts (Served.page {m = m} {t = t} {place = place} {calls = calls} l s) h =
         let item = getD pages place [] in
-        goes-on sha256 (ask place item (own m place)) (heldAt m t) (heldAt m t) calls (map (λ (c : Call). answered c 0) calls)
-        (ap (λ (held : Held). paperNumber sha256 held (ask place item (own m place))) (held-at m t (omega arith)) ∙ takes-page sha256 id t m (rootAt m) place item (own m place) (items place) (own-accepted m h place l)) refl (accepts s h)
+        goes-on H (ask place item (own m place)) (heldAt m t) (heldAt m t) calls (map (λ (c : Call). answered c 0) calls)
+        (ap (λ (held : Held). paperNumber H held (ask place item (own m place))) (held-at m t (omega arith)) ∙ takes-page H id t m (rootAt m) place item (own m place) (items place) (own-accepted m h place l)) refl (accepts s h)
 
     -- two proofs of the log's own page under one head
     own-settled : (m place pair : ℕ) → place < m → m ≤ length pages → pairBytes ≤ pair →
         (let item = getD pages place [] in
-        settled item item (compare sha256 place m (rootAt m) (sha256 (0 ∷ item)) (own m place) (sha256 (0 ∷ item)) (own m place) pair) ≡ alike)
+        settled item item (compare H place m (rootAt m) (H (0 ∷ item)) (own m place) (H (0 ∷ item)) (own m place) pair) ≡ alike)
     unfolding settled
     own-settled m place pair h le l =
         let item = getD pages place [] in
-        let h₁ = sha256 (0 ∷ item) in
+        let h₁ = H (0 ∷ item) in
         let v = own-accepted m le place h in
-        rw (comparing sha256 sha256-length .compares place m (rootAt m) h₁ (own m place) h₁ (own m place) pair .same v v l .1 (refl, refl), same-refl item)
+        rw (comparing H H32 .compares place m (rootAt m) h₁ (own m place) h₁ (own m place) pair .same v v l .1 (refl, refl), same-refl item)
 
     -- over the heads that an honest log served since
     follows : (es fs : List Entry) (m place pair : ℕ) (item w : List ℕ) → place < m → m ≤ length pages → pairBytes ≤ pair → Good m (es ++ (answered (ask place item w) 0 ∷ fs)) →
-        follow sha256 place (getD pages place []) item w pair (heads es) m (rootAt m) (own m place) ≡ alike
+        follow H place (getD pages place []) item w pair (heads es) m (rootAt m) (own m place) ≡ alike
     unfolding Good NewHead OwnPage heads follow onward
     follows [] fs m place pair item w h le l g = rw (g .0 .0, g .0 .2) (own-settled m place pair h le l)
     follows (answered (offer id₂ time n s q) zero ∷ es) fs m place pair item w h le l g =
@@ -261,7 +266,7 @@ module _ (id : List ℕ) (pages : List (List ℕ)) (all : length pages ≤ large
     follows (answered (ask x other q) (suc j) ∷ es) fs m place pair item w h le l g = absurd g
 
     disputed : (m place pair : ℕ) (r item₁ w₁ item₂ w₂ : List ℕ) (es fs : List Entry) (hs : Heads) → m ≤ length pages → (0 < m → r ≡ rootAt m) → pairBytes ≤ pair → hs ≡ heads es →
-        Good m (answered (ask place item₁ w₁) 0 ∷ (es ++ (answered (ask place item₂ w₂) 0 ∷ fs))) → dispute sha256 item₁ place w₁ m r hs item₂ w₂ pair ≡ alike
+        Good m (answered (ask place item₁ w₁) 0 ∷ (es ++ (answered (ask place item₂ w₂) 0 ∷ fs))) → dispute H item₁ place w₁ m r hs item₂ w₂ pair ≡ alike
     unfolding dispute unless Good OwnPage
     disputed m place pair r item₁ w₁ item₂ w₂ es fs hs le k l e g =
         let p = g .0 in
@@ -276,27 +281,68 @@ said : (f : Finding) → f ≡ alike → disputeReport f ≡ Answer.done Ruling.
 unfolding disputeReport
 said f e = rw e
 
+-- a list of calls by one number, and its entries
+under-all : (n : ℕ) (calls : List Call) → map (under n) (map (λ (c : Call). answered c 0) calls) ≡ map (λ (c : Call). under n (answered c 0)) calls
+under-all n [] = refl
+under-all n (c ∷ calls) = ap (λ (l : List (Numbered Entry)). under n (answered c 0) ∷ l) (under-all n calls)
+
+plain-all : (n : ℕ) (calls : List Call) → plain (map (λ (c : Call). under n (answered c 0)) calls) ≡ map (λ (c : Call). answered c 0) calls
+unfolding plain
+plain-all n [] = refl
+plain-all n (c ∷ calls) = ap (λ (l : List Entry). answered c 0 ∷ l) (plain-all n calls)
+
+numbered-so : (n m : ℕ) (calls : List Call) (before rest : List (Numbered Entry)) (x : Entry) → map (λ (c : Call). under n (answered c 0)) calls ≡ before ++ (under m x ∷ rest) → n ≡ m
+numbered-so n m [] [] rest x e = absurd (let y : _≡_ {A = ℕ} 0 1 = cc in omega arith)
+numbered-so n m [] (b ∷ before) rest x e = absurd (let y : _≡_ {A = ℕ} 0 1 = cc in omega arith)
+numbered-so n m (c ∷ calls) [] rest x e = cc
+numbered-so n m (c ∷ calls) (b ∷ before) rest x e =
+    let f : map (λ (d : Call). under n (answered d 0)) calls ≡ before ++ (under m x ∷ rest) = cc in
+    numbered-so n m calls before rest x f
+
+plain-two : (x y z : List (Numbered Entry)) (n m : ℕ) (e f : Entry) → plain (x ++ (under n e ∷ (y ++ (under m f ∷ z)))) ≡ plain x ++ (e ∷ (plain y ++ (f ∷ plain z)))
+unfolding plain
+plain-two x y z n m e f = plain-append x (under n e ∷ (y ++ (under m f ∷ z))) ∙ ap (λ (l : List Entry). plain x ++ (e ∷ l)) (plain-append y (under m f ∷ z))
+
+-- what is said under the hash of a number is said by the number
+said-by : (n : ℕ) (a : Algorithm) (page₁ : List ℕ) (place : ℕ) (path₁ : List ℕ) (size : ℕ) (root : List ℕ) (hs : Heads) (page₂ path₂ : List ℕ) (pair : ℕ) → algorithmOf n ≡ By a →
+    dispute (hashOf a) page₁ place path₁ size root hs page₂ path₂ pair ≡ alike → disputeReport (disputeBy n page₁ place path₁ size root hs page₂ path₂ pair) ≡ Answer.done Ruling.samePage
+unfolding disputeBy
+said-by n a page₁ place path₁ size root hs page₂ path₂ pair e f = said _ (sym (by-known n _ _ a (sym e)) ∙ f)
+
 pub honest-log : HonestLog
 unfolding heldAt
-honest-log id pages calls least most all items s =
-    let good₀ = good id pages all s (omega arith) in
-    record {
-      accepted = accepted₀;
-      same = λ before between rest place page₁ path₁ page₂ path₂ pair e l.
-          let fs = answered (ask place page₂ path₂) 0 ∷ rest in
-          let g : Good id pages all 0 (before ++ (answered (ask place page₁ path₁) 0 ∷ (between ++ fs))) = rw (sym accepted₀ ∙ e) at good₀ in
-          let k = after-some id pages all before (answered (ask place page₁ path₁) 0 ∷ (between ++ fs)) 0 [] (omega arith) (λ z. absurd (omega arith)) g in
-          let back = read-back (heads between) (heads-fit sha256 calls before between fs place page₁ path₁ (sym (same-answers calls) ∙ e)) in
-          said (dispute sha256 page₁ place path₁ (lastSize 0 (heads before)) (lastRoot [] (heads before)) (headsOf (joinedHeads (heads between))) page₂ path₂ (length pair))
-          (disputed id pages all least most items (lastSize 0 (heads before)) place (length pair) (lastRoot [] (heads before)) page₁ path₁ page₂ path₂ between rest (headsOf (joinedHeads (heads between))) (k .0) (k .1) l back (k .2));
-    }
+honest-log a id pages calls least most all items s = record { accepted = accepted₀; same = same₀ }
   where
-    accepted₀ : answers emptyRecord calls ≡ map (λ (c : Call). answered c 0) calls
-    accepted₀ = same-answers calls ∙ accepts id pages all least most items s (omega arith)
+    ran : run (hashOf a) empty calls ≡ map (λ (c : Call). answered c 0) calls
+    ran = accepts (hashOf a) (hash-length a) id pages all least most items s (omega arith)
+
+    accepted₀ : answers emptyRecord (map (under (numberOf a)) calls) ≡ map (λ (c : Call). under (numberOf a) (answered c 0)) calls
+    accepted₀ =
+        all-own a (numberOf a) (numbers .of-number a) calls emptyRecord (free-choice emptyRecord (numberOf a) holds-nothing ∙ numbers .of-number a)
+        ∙ ap (λ (v : Held). map (under (numberOf a)) (run (hashOf a) v calls)) view-none ∙ ap (map (under (numberOf a))) ran ∙ under-all (numberOf a) calls
+
+    same₀ : (before between rest : List (Numbered Entry)) (n₁ n₂ place : ℕ) (page₁ path₁ page₂ path₂ pair : List ℕ) →
+        answers emptyRecord (map (under (numberOf a)) calls) ≡ before ++ (under n₁ (answered (ask place page₁ path₁) 0) ∷ (between ++ (under n₂ (answered (ask place page₂ path₂) 0) ∷ rest))) →
+        pairBytes ≤ length pair →
+        disputeReport (disputeBy n₁ page₁ place path₁ (lastSize 0 (heads (plain before))) (lastRoot [] (heads (plain before))) (headsOf (joinedHeads (heads (plain between)))) page₂ path₂ (length pair)) ≡ Answer.done Ruling.samePage
+    same₀ before between rest n₁ n₂ place page₁ path₁ page₂ path₂ pair e l =
+        let f = sym accepted₀ ∙ e in
+        let x = plain before in
+        let y = plain between in
+        let fs = answered (ask place page₂ path₂) 0 ∷ plain rest in
+        let d : map (λ (c : Call). answered c 0) calls ≡ x ++ (answered (ask place page₁ path₁) 0 ∷ (y ++ fs)) =
+        sym (plain-all (numberOf a) calls) ∙ ap plain f ∙ plain-two before between rest n₁ n₂ (answered (ask place page₁ path₁) 0) (answered (ask place page₂ path₂) 0) in
+        let named = ap algorithmOf (sym (numbered-so (numberOf a) n₁ calls before _ _ f)) ∙ numbers .of-number a in
+        let g : Good (hashOf a) (hash-length a) id pages all 0 (x ++ (answered (ask place page₁ path₁) 0 ∷ (y ++ fs))) = rw d at (good (hashOf a) (hash-length a) id pages all s (omega arith)) in
+        let k = after-some (hashOf a) (hash-length a) id pages all x (answered (ask place page₁ path₁) 0 ∷ (y ++ fs)) 0 [] (omega arith) (λ z. absurd (omega arith)) g in
+        let back = read-back (heads y) (heads-fit (hashOf a) calls x y fs place page₁ path₁ (ran ∙ d)) in
+        said-by n₁ a page₁ place path₁ (lastSize 0 (heads x)) (lastRoot [] (heads x)) (headsOf (joinedHeads (heads y))) page₂ path₂ (length pair) named
+        (disputed (hashOf a) (hash-length a) id pages all least most items (lastSize 0 (heads x)) place (length pair) (lastRoot [] (heads x)) page₁ path₁ page₂ path₂ y (plain rest) (headsOf (joinedHeads (heads y))) (k .0) (k .1) l back (k .2))
 
 pub grown-heads : GrownHeads
-grown-heads id pages calls n all le e =
-    let f = follows-all sha256 calls in
-    let k = length-map pages (leaf sha256) in
-    let t : length (take n (map (leaf sha256) pages)) ≡ n = simp length-take (omega arith) in
-    (f .count-of-all ∙ ap length e ∙ t, f .root-of-all ∙ ap (root sha256) (e ∙ sym (leaves-nodes id pages all n le)))
+grown-heads a id pages calls n all le e =
+    let H = hashOf a in
+    let f = follows-all H (numberOf a) calls in
+    let k = length-map pages (leaf H) in
+    let t : length (take n (map (leaf H) pages)) ≡ n = simp length-take (omega arith) in
+    (f .count-of-all ∙ ap length e ∙ t, f .root-of-all ∙ ap (root H) (e ∙ sym (leaves-nodes H (hash-length a) id pages all n le)))

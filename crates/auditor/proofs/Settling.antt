@@ -9,9 +9,14 @@ use lib.Dec.{ltb, eqb}
 use lib.ListN.{length, take, drop}
 use lib.Seq.{take-at, drop-at}
 use borrow.Author.Tests.{eqb-true, ltb-false, le-ltb}
-use Rattle.hash.specs.Digest.{sha256}
+use Rattle.hash.specs.declared.Algorithm.{Algorithm}
+use Rattle.hash.specs.declared.Named.{Named}
+use Rattle.hash.specs.declared.Named.the-variants.{By, Unknown}
+use Rattle.hash.specs.Algorithm.{algorithmOf}
+use Rattle.hash.specs.Digest.{hashOf, byNamed, byNumber}
 use Rattle.octets.specs.Limits.{mostItem}
-use Rattle.hash.proofs.Promises.{sha256-length}
+use Rattle.hash.proofs.Promises.{hash-length}
+use Rattle.hash.proofs.Algorithms.{by-known}
 use Rattle.octets.specs.Bytes.{same, over}
 use Rattle.tree.specs.Count.{inclusionCount}
 use Rattle.tree.specs.Collision.{Collision}
@@ -30,16 +35,17 @@ use Rattle.carry.proofs.Carrying.{carrying}
 use Rattle.octets.specs.Answer.{Answer}
 use Rattle.auditor.specs.Held.{Held, empty, head, emptyRecord}
 use Rattle.auditor.specs.Heads.{Heads, end, truncated, then, lastSize, lastRoot, joinedHeads, headsOf}
-use Rattle.auditor.specs.Dispute.{Finding, refused, alike, nodes, pages, onward, settled, longestPath, follow, dispute, disputeReport, pairDisputed}
-use Rattle.auditor.specs.Calls.{Call, offer, ask, Entry, answered, paperNumber, paperAfter, run, answers, heads}
+use Rattle.auditor.specs.Dispute.{Finding, refused, alike, nodes, pages, onward, settled, longestPath, follow, dispute, disputeReport, pairDisputed, disputeBy}
+use Rattle.auditor.specs.Calls.{Call, offer, ask, Entry, answered, Numbered, under, plain, accepted, paperNumber, paperAfter, run, answers, heads}
 use Rattle.auditor.specs.Offer.{kept}
 use Rattle.auditor.specs.Page.{pageNumber}
 use Rattle.auditor.specs.Claims.{lastHead}
-use Rattle.auditor.specs.Demand.{Sound, Settles, WhateverGiven, Demand3, TwoAuditors}
+use Rattle.auditor.specs.Demand.{Sound, Settles, OfHash, SoundBy, WhateverGiven, Demand3, TwoAuditors}
 use Rattle.auditor.proofs.Offering.{taken}
 use Rattle.auditor.proofs.Reading.{Fits, read-back}
 use Rattle.auditor.proofs.Disputing.{followed}
-use Rattle.auditor.proofs.Holding.{same-answers, Runs, runs, later, shown, Some, some-page, consistent-fits, heads-fit}
+use Rattle.auditor.proofs.Numbering.{named-one, heads-accepted, one-accepted, two-accepted}
+use Rattle.auditor.proofs.Holding.{Runs, runs, later, shown, Some, some-page, consistent-fits, heads-fit}
 
 -- the record holds this size and root, or nothing
 unfoldable pub Agrees : Held → ℕ → List ℕ → Type 0
@@ -225,17 +231,17 @@ module _ (H : List ℕ → List ℕ) where
 -- ---- in the code's terms
 
 -- the strings are the start of the pair buffer
-report-sound : (page₁ page₂ : List ℕ) (d : Finding) (pair : List ℕ) → Owed sha256 page₁ page₂ d → Sound page₁ page₂ (disputeReport d) (pairDisputed d pair)
+report-sound : (H : List ℕ → List ℕ) (page₁ page₂ : List ℕ) (d : Finding) (pair : List ℕ) → Owed H page₁ page₂ d → Sound H page₁ page₂ (disputeReport d) (pairDisputed d pair)
 unfolding Owed Sound disputeReport pairDisputed over
-report-sound page₁ page₂ (refused n) pair w = tt
-report-sound page₁ page₂ alike pair w = w
-report-sound page₁ page₂ (nodes s t) pair w =
+report-sound H page₁ page₂ (refused n) pair w = tt
+report-sound H page₁ page₂ alike pair w = w
+report-sound H page₁ page₂ (nodes s t) pair w =
     let z = drop (length (s ++ t)) pair in
     let g : (s ++ t) ++ z ≡ s ++ (t ++ z) = append-assoc s t z in
     let a : take 65 ((s ++ t) ++ z) ≡ s = ap (take 65) g ∙ take-at s (t ++ z) 65 (w .first-65) in
     let b : take 65 (drop 65 ((s ++ t) ++ z)) ≡ t = ap (λ (x : List ℕ). take 65 (drop 65 x)) g ∙ ap (take 65) (drop-at s (t ++ z) 65 (w .first-65)) ∙ take-at t z 65 (w .second-65) in
     rw (a, b) (w .collision)
-report-sound page₁ page₂ pages pair w = w
+report-sound H page₁ page₂ pages pair w = w
 
 report-refused : (d : Finding) (n : ℕ) → disputeReport d ≡ Answer.refused n → d ≡ refused n
 unfolding disputeReport
@@ -244,47 +250,76 @@ report-refused alike n e = absurd (let y : _≡_ {A = ℕ} 0 1 = cc in omega ari
 report-refused (nodes s t) n e = absurd (let y : _≡_ {A = ℕ} 0 1 = cc in omega arith)
 report-refused pages n e = absurd (let y : _≡_ {A = ℕ} 0 1 = cc in omega arith)
 
-pub whatever-given : WhateverGiven
-whatever-given page₁ place path₁ size root between page₂ path₂ pair =
-    report-sound page₁ page₂ _ pair (whatever sha256 sha256-length page₁ place path₁ size root (headsOf between) page₂ path₂ (length pair))
+-- by a number: under its hash, or 16
+whatever-by : (named : Named) (page₁ : List ℕ) (place : ℕ) (path₁ : List ℕ) (size : ℕ) (root : List ℕ) (hs : Heads) (page₂ path₂ pair : List ℕ) →
+    (let d = byNamed named (refused 16) (λ H. dispute H page₁ place path₁ size root hs page₂ path₂ (length pair)) in
+    SoundBy named page₁ page₂ (disputeReport d) (pairDisputed d pair) pair)
+unfolding SoundBy byNamed disputeReport pairDisputed
+whatever-by (By a) page₁ place path₁ size root hs page₂ path₂ pair =
+    report-sound (hashOf a) page₁ page₂ _ pair (whatever (hashOf a) (hash-length a) page₁ place path₁ size root hs page₂ path₂ (length pair))
+whatever-by Unknown page₁ place path₁ size root hs page₂ path₂ pair = (refl, refl)
 
-settles : (page₁ : List ℕ) (place : ℕ) (path₁ : List ℕ) (size : ℕ) (root : List ℕ) (hs : Heads) (page₂ path₂ pair : List ℕ) → Fits hs →
-    ((n : ℕ) → dispute sha256 page₁ place path₁ size root hs page₂ path₂ (length pair) ≡ refused n → ⊥) →
-    (let d = dispute sha256 page₁ place path₁ size root (headsOf (joinedHeads hs)) page₂ path₂ (length pair) in Settles page₁ page₂ (disputeReport d) (pairDisputed d pair))
-unfolding Settles
-settles page₁ place path₁ size root hs page₂ path₂ pair fit passed =
-    rw (read-back hs fit)
-    (report-sound page₁ page₂ _ pair (whatever sha256 sha256-length page₁ place path₁ size root hs page₂ path₂ (length pair)), λ n e. passed n (report-refused _ n e))
+pub whatever-given : WhateverGiven
+unfolding disputeBy byNumber
+whatever-given n page₁ place path₁ size root between page₂ path₂ pair = whatever-by (algorithmOf n) page₁ place path₁ size root (headsOf between) page₂ path₂ pair
+
+module _ (H : List ℕ → List ℕ) (H32 : (s : List ℕ) → length (H s) ≡ 32) where
+  settles : (page₁ : List ℕ) (place : ℕ) (path₁ : List ℕ) (size : ℕ) (root : List ℕ) (hs : Heads) (page₂ path₂ pair : List ℕ) → Fits hs →
+      ((n : ℕ) → dispute H page₁ place path₁ size root hs page₂ path₂ (length pair) ≡ refused n → ⊥) →
+      (let d = dispute H page₁ place path₁ size root (headsOf (joinedHeads hs)) page₂ path₂ (length pair) in Settles H page₁ page₂ (disputeReport d) (pairDisputed d pair))
+  unfolding Settles
+  settles page₁ place path₁ size root hs page₂ path₂ pair fit passed =
+      rw (read-back hs fit)
+      (report-sound H page₁ page₂ _ pair (whatever H H32 page₁ place path₁ size root hs page₂ path₂ (length pair)), λ n e. passed n (report-refused _ n e))
+
+-- what is settled under the hash of a number is settled by the number
+of-number : (n : ℕ) (a : Algorithm) (page₁ : List ℕ) (place : ℕ) (path₁ : List ℕ) (size : ℕ) (root : List ℕ) (hs : Heads) (page₂ path₂ pair : List ℕ) → algorithmOf n ≡ By a →
+    (let d = dispute (hashOf a) page₁ place path₁ size root hs page₂ path₂ (length pair) in Settles (hashOf a) page₁ page₂ (disputeReport d) (pairDisputed d pair)) →
+    (let d = disputeBy n page₁ place path₁ size root hs page₂ path₂ (length pair) in OfHash (algorithmOf n) (λ H. Settles H page₁ page₂ (disputeReport d) (pairDisputed d pair)))
+unfolding OfHash disputeBy byNumber byNamed
+of-number n a page₁ place path₁ size root hs page₂ path₂ pair e w = rw e w
 
 pub demand3 : Demand3
-demand3 calls before between rest place page₁ path₁ page₂ path₂ pair e long =
-    let f = sym (same-answers calls) ∙ e in
-    settles page₁ place path₁ (lastSize 0 (heads before)) (lastRoot [] (heads before)) (heads between) page₂ path₂ pair
-    (heads-fit sha256 calls before between (answered (ask place page₂ path₂) 0 ∷ rest) place page₁ path₁ f)
-    (demand sha256 sha256-length calls before between rest place page₁ path₁ page₂ path₂ (length pair) f long)
+demand3 calls before between rest n₁ n₂ place page₁ path₁ page₂ path₂ pair e long =
+    let u = two-accepted calls before between rest n₁ n₂ (ask place page₁ path₁) (ask place page₂ path₂) e in
+    let H = hashOf (u .alg) in
+    let x = plain (accepted before) in
+    let y = plain (accepted between) in
+    let z = plain (accepted rest) in
+    let s = settles H (hash-length (u .alg)) page₁ place path₁ (lastSize 0 (heads x)) (lastRoot [] (heads x)) (heads y) page₂ path₂ pair
+    (heads-fit H (u .calls) x y (answered (ask place page₂ path₂) 0 ∷ z) place page₁ path₁ (u .as-run))
+    (demand H (hash-length (u .alg)) (u .calls) x y z place page₁ path₁ page₂ path₂ (length pair) (u .as-run) long) in
+    (u .one-number, of-number n₁ (u .alg) page₁ place path₁ _ _ _ page₂ path₂ pair (u .named) (rw (heads-accepted before, heads-accepted between) at s))
 
 -- from the page of one auditor to the page of another
-one-way : (calls₁ calls₂ : List Call) (before₁ rest₁ before₂ rest₂ : List Entry) (place : ℕ) (page₁ path₁ page₂ path₂ proof pair : List ℕ) →
-    answers emptyRecord calls₁ ≡ before₁ ++ (answered (ask place page₁ path₁) 0 ∷ rest₁) → answers emptyRecord calls₂ ≡ before₂ ++ (answered (ask place page₂ path₂) 0 ∷ rest₂) →
-    (let m = lastSize 0 (heads before₁) in
-    let r = lastRoot [] (heads before₁) in
-    let n = lastSize 0 (heads before₂) in
-    let s = lastRoot [] (heads before₂) in
-    pairBytes ≤ length pair → consistencyVerdict sha256 m n r s proof ≡ 0 →
-    (let d = dispute sha256 page₁ place path₁ m r (headsOf (joinedHeads (then n s proof end))) page₂ path₂ (length pair) in
-    Settles page₁ page₂ (disputeReport d) (pairDisputed d pair)))
+one-way : (calls₁ calls₂ : List (Numbered Call)) (before₁ rest₁ before₂ rest₂ : List (Numbered Entry)) (number place : ℕ) (page₁ path₁ page₂ path₂ proof pair : List ℕ) →
+    answers emptyRecord calls₁ ≡ before₁ ++ (under number (answered (ask place page₁ path₁) 0) ∷ rest₁) → answers emptyRecord calls₂ ≡ before₂ ++ (under number (answered (ask place page₂ path₂) 0) ∷ rest₂) →
+    (let m = lastSize 0 (heads (plain before₁)) in
+    let r = lastRoot [] (heads (plain before₁)) in
+    let n = lastSize 0 (heads (plain before₂)) in
+    let s = lastRoot [] (heads (plain before₂)) in
+    pairBytes ≤ length pair → byNumber number 16 (λ H. consistencyVerdict H m n r s proof) ≡ 0 →
+    (let d = disputeBy number page₁ place path₁ m r (headsOf (joinedHeads (then n s proof end))) page₂ path₂ (length pair) in
+    OfHash (algorithmOf number) (λ H. Settles H page₁ page₂ (disputeReport d) (pairDisputed d pair))))
 unfolding Chain lastSize lastRoot Fits
-one-way calls₁ calls₂ before₁ rest₁ before₂ rest₂ place page₁ path₁ page₂ path₂ proof pair e₁ e₂ long c =
-    let m = lastSize 0 (heads before₁) in
-    let r = lastRoot [] (heads before₁) in
-    let n = lastSize 0 (heads before₂) in
-    let s = lastRoot [] (heads before₂) in
-    let a = at-page sha256 sha256-length calls₁ before₁ rest₁ place page₁ path₁ (sym (same-answers calls₁) ∙ e₁) in
-    let b = at-page sha256 sha256-length calls₂ before₂ rest₂ place page₂ path₂ (sym (same-answers calls₂) ∙ e₂) in
-    settles page₁ place path₁ m r (then n s proof end) page₂ path₂ pair
-    (consistent-fits sha256 m n r s proof end c tt)
-    (not-refused sha256 sha256-length place page₁ path₁ m r (then n s proof end) page₂ path₂ (length pair) (c, tt) (a .2) (b .2) long)
+one-way calls₁ calls₂ before₁ rest₁ before₂ rest₂ number place page₁ path₁ page₂ path₂ proof pair e₁ e₂ long c =
+    let u = one-accepted calls₁ before₁ rest₁ number (ask place page₁ path₁) e₁ in
+    let v = one-accepted calls₂ before₂ rest₂ number (ask place page₂ path₂) e₂ in
+    let H = hashOf (u .alg) in
+    let H32 = hash-length (u .alg) in
+    let same = named-one (sym (v .named) ∙ u .named) in
+    let m = lastSize 0 (heads (plain before₁)) in
+    let r = lastRoot [] (heads (plain before₁)) in
+    let n = lastSize 0 (heads (plain before₂)) in
+    let s = lastRoot [] (heads (plain before₂)) in
+    let a = rw (heads-accepted before₁) at (at-page H H32 (u .calls) (plain (accepted before₁)) (plain (accepted rest₁)) place page₁ path₁ (u .as-run)) in
+    let b = rw (heads-accepted before₂) at (at-page H H32 (v .calls) (plain (accepted before₂)) (plain (accepted rest₂)) place page₂ path₂ (rw same at (v .as-run))) in
+    let k : consistencyVerdict H m n r s proof ≡ 0 = by-known number 16 (λ G. consistencyVerdict G m n r s proof) (u .alg) (sym (u .named)) ∙ c in
+    of-number number (u .alg) page₁ place path₁ m r _ page₂ path₂ pair (u .named)
+    (settles H H32 page₁ place path₁ m r (then n s proof end) page₂ path₂ pair
+    (consistent-fits H m n r s proof end k tt)
+    (not-refused H H32 place page₁ path₁ m r (then n s proof end) page₂ path₂ (length pair) (k, tt) (a .2) (b .2) long))
 
 pub two-auditors : TwoAuditors
-two-auditors calls₁ calls₂ before₁ rest₁ before₂ rest₂ place page₁ path₁ page₂ path₂ proof pair e₁ e₂ long =
-    (one-way calls₁ calls₂ before₁ rest₁ before₂ rest₂ place page₁ path₁ page₂ path₂ proof pair e₁ e₂ long, one-way calls₂ calls₁ before₂ rest₂ before₁ rest₁ place page₂ path₂ page₁ path₁ proof pair e₂ e₁ long)
+two-auditors calls₁ calls₂ before₁ rest₁ before₂ rest₂ number place page₁ path₁ page₂ path₂ proof pair e₁ e₂ long =
+    (one-way calls₁ calls₂ before₁ rest₁ before₂ rest₂ number place page₁ path₁ page₂ path₂ proof pair e₁ e₂ long, one-way calls₂ calls₁ before₂ rest₂ before₁ rest₁ number place page₂ path₂ page₁ path₁ proof pair e₂ e₁ long)

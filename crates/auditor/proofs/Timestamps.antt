@@ -1,5 +1,5 @@
 -- The stricter test for 12, and the head held offered again. Assumes nothing.
-use mathlib.Core.Path.{_≡_, refl, sym, ap, _∙_}
+use mathlib.Core.Path.{_≡_, refl, sym, ap, subst, _∙_}
 use mathlib.Core.Bool.{cond, not, _||_}
 use mathlib.Core.List.{List, [], _∷_}
 use Prim.Native.Nat.{ℕ, zero, suc, _%_, _≤_, _<_}
@@ -7,19 +7,22 @@ use native.Mathlib.Omega.{arith}
 use lib.Dec.{ltb, eqb}
 use lib.ListN.{length}
 use borrow.Author.Tests.{ltb-false, ne-eqb, eqb-false}
-use Rattle.hash.specs.Digest.{sha256}
+use Rattle.hash.specs.Digest.{hashOf}
 use Rattle.tree.specs.Limits.{largestSize}
 use Rattle.octets.specs.Bytes.{same}
 use Rattle.tree.specs.Verdict.{consistencyVerdict}
 use Rattle.tree.proofs.Answering.{count-7, sizes-in}
 use Rattle.tree.proofs.Accepting.{pass, consistency-accepted, equal}
-use Rattle.auditor.specs.Held.{Held, empty, head, emptyRecord}
-use Rattle.auditor.specs.Offer.{outside, first, stale, against, byRecord, kept, offered}
-use Rattle.auditor.specs.Calls.{offer, ask, Entry, answered, called, answers, paperNumber, paperAfter}
+use Rattle.auditor.specs.declared.Record.{Record}
+use Rattle.auditor.specs.declared.Answered.{Answered}
+use Rattle.auditor.specs.Held.{Held, empty, head, view, emptyRecord}
+use Rattle.auditor.specs.Offer.{outside, first, stale, against, byRecord, kept}
+use Rattle.auditor.specs.Calls.{Call, offer, ask, Entry, answered, Numbered, under, plain, accepted, called, answers, final, paperNumber, paperAfter}
 use Rattle.auditor.specs.Claims.{lastHead}
 use Rattle.auditor.specs.Timestamps.{HeldAgain, byTime, older, OnlyStricter}
-use Rattle.auditor.proofs.Offering.{or-false, passed, as-earlier, another, by-tests}
-use Rattle.auditor.proofs.Holding.{same-answers, held-is-accepted, Runs, runs}
+use Rattle.auditor.proofs.Offering.{or-false, passed, as-earlier, another, by-tests, view-empty}
+use Rattle.auditor.proofs.Numbering.{called-by, called-16, bound-own, bound-other, callsOf, one-hash-of, Sorted, sorted-final, sorted-empty}
+use Rattle.auditor.proofs.Holding.{held-is-accepted, Runs, runs}
 use Rattle.auditor.proofs.Serving.{takes-later}
 
 module _ (H : List ℕ → List ℕ) (id₀ : List ℕ) (time₀ size₀ : ℕ) (root₀ id : List ℕ) (time size : ℕ) (root path : List ℕ) where
@@ -80,12 +83,45 @@ module _ (H : List ℕ → List ℕ) where
   proper (answered (offer id time size root path) (suc n) ∷ es) held w p = proper es held (w .1) p
   proper (answered (ask place page path) n ∷ es) held w p = proper es held (w .1) p
 
+-- the last head is that of the accepted calls
+last-accepted : (es : List (Numbered Entry)) (held : Held) → lastHead held (plain (accepted es)) ≡ lastHead held (plain es)
+unfolding lastHead plain accepted
+last-accepted [] held = refl
+last-accepted (under n (answered (offer id time size root path) zero) ∷ es) held = last-accepted es (head id time size root)
+last-accepted (under n (answered (offer id time size root path) (suc k)) ∷ es) held = last-accepted es held
+last-accepted (under n (answered (ask place page path) zero) ∷ es) held = last-accepted es held
+last-accepted (under n (answered (ask place page path) (suc k)) ∷ es) held = last-accepted es held
+
+-- what the record holds passed the tests of its own
+held-proper : (calls : List (Numbered Call)) → Proper (view (final emptyRecord calls))
+unfolding Proper
+held-proper calls =
+    let es = answers emptyRecord calls in
+    let u = one-hash-of calls in
+    let H = hashOf (u .alg) in
+    let w : Runs H empty (plain (accepted es)) = rw (u .runs .one-run) at (runs H (callsOf es) empty) in
+    let p = proper H (plain (accepted es)) empty w tt in
+    subst Proper (last-accepted es empty ∙ sym (held-is-accepted calls .0)) p
+
+head-not-empty : (id : List ℕ) (time size : ℕ) (root : List ℕ) → empty ≡ head id time size root → ⊥
+head-not-empty id time size root e = let y : _≡_ {A = ℕ} 0 1 = cc in omega arith
+
+again-by : (r : Record) → Sorted r → (id : List ℕ) (time again size : ℕ) (root path : List ℕ) → Proper (view r) → view r ≡ head id time size root → time ≤ again → length path % 32 ≡ 0 →
+    (called r (under (r .algorithm) (offer id again size root path)) .number ≡ cond (eqb (length path) 0) 0 7)
+    × ((n : ℕ) → (n ≡ r .algorithm → ⊥) → called r (under n (offer id again size root path)) .number ≡ 16)
+unfolding Proper paperNumber
+again-by r (Sorted.none h) id time again size root path q v le whole = absurd (head-not-empty id time size root (sym (view-empty r h) ∙ v))
+again-by r (Sorted.some a w) id time again size root path q v le whole =
+    let H = hashOf a in
+    let c = offer id again size root path in
+    let p : Proper (head id time size root) = rw v at q in (
+      ap (λ (o : Answered). o .number) (called-by a r (r .algorithm) c (bound-own a r w))
+          ∙ rw v
+          (takes-later H id (p .0) (p .1) again size root (p .2) (p .3) (p .4) time size root path whole (omega arith) le (λ e. (refl, refl)) (λ e. refl)
+          ∙ one-size H size root path (p .3) (p .4) (p .2) whole),
+      λ n d. ap (λ (o : Answered). o .number) (called-16 r n c (bound-other r n (w .holds) d)),
+    )
+
 pub held-again : HeldAgain
-unfolding called offered Proper
 held-again calls id time again size root path v le whole =
-    let e : lastHead empty (answers emptyRecord calls) ≡ head id time size root = sym (held-is-accepted calls) ∙ v in
-    let w : Runs sha256 empty (answers emptyRecord calls) = rw (sym (same-answers calls)) at (runs sha256 calls empty) in
-    let p : Proper (head id time size root) = rw e at (proper sha256 (answers emptyRecord calls) empty w tt) in
-    rw v
-    (takes-later sha256 id (p .0) (p .1) again size root (p .2) (p .3) (p .4) time size root path whole (omega arith) le (λ q. (refl, refl)) (λ q. refl)
-    ∙ one-size sha256 size root path (p .3) (p .4) (p .2) whole)
+    again-by (final emptyRecord calls) (sorted-final calls emptyRecord sorted-empty) id time again size root path (held-proper calls) v le whole

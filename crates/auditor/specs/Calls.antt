@@ -1,4 +1,5 @@
 -- Lists of calls that an auditor gets, and what they answer. Assumes nothing: these are definitions.
+use mathlib.Core.Path.{_≡_}
 use mathlib.Core.List.{List, [], _∷_}
 use Prim.Native.Nat.{ℕ, zero, suc}
 use Rattle.auditor.specs.declared.Record.{Record}
@@ -17,17 +18,30 @@ pub data Call : Type 0 where
 pub data Entry : Type 0 where
   answered : Call → ℕ → Entry
 
--- the code's calls: the first is given the record r, each later one the record that the call before returned, refused or not
-unfoldable pub called : Record → Call → Answered
-called r (offer id time size root path) = offered r id time size root path
-called r (ask place page path) = asked r place page path
+-- a call, or an entry, with the number of the hash that the call names
+pub data Numbered (A : Type 0) : Type 0 where
+  under : ℕ → A → Numbered A
 
-unfoldable pub answers : Record → List Call → List Entry
+-- without the numbers
+unfoldable pub plain : {A : Type 0} → List (Numbered A) → List A
+plain [] = []
+plain (under n a ∷ l) = a ∷ plain l
+
+-- the code's calls: the first is given the record r, each later one the record that the call before returned, refused or not
+unfoldable pub called : Record → Numbered Call → Answered
+called r (under n (offer id time size root path)) = offered n r id time size root path
+called r (under n (ask place page path)) = asked n r place page path
+
+-- what a call answered, with its number
+unfoldable pub entry : Numbered Call → ℕ → Numbered Entry
+entry (under n c) k = under n (answered c k)
+
+unfoldable pub answers : Record → List (Numbered Call) → List (Numbered Entry)
 answers r [] = []
-answers r (c ∷ calls) = answered c (called r c .number) ∷ answers (called r c .after) calls
+answers r (c ∷ calls) = entry c (called r c .number) ∷ answers (called r c .after) calls
 
 -- the code's record after them
-unfoldable pub final : Record → List Call → Record
+unfoldable pub final : Record → List (Numbered Call) → Record
 final r [] = r
 final r (c ∷ calls) = final (called r c .after) calls
 
@@ -46,15 +60,21 @@ module _ (H : List ℕ → List ℕ) where
   run held [] = []
   run held (c ∷ calls) = answered c (paperNumber held c) ∷ run (paperAfter held c (paperNumber held c)) calls
 
+-- the number of every accepted call is this one
+unfoldable pub AllUnder : ℕ → List (Numbered Entry) → Type 0
+AllUnder n [] = Unit {0}
+AllUnder n (under m (answered c zero) ∷ entries) = (m ≡ n) × AllUnder n entries
+AllUnder n (under m (answered c (suc k)) ∷ entries) = AllUnder n entries
+
 -- the call of an entry
-unfoldable pub callOf : Entry → Call
-callOf (answered c n) = c
+unfoldable pub callOf : Numbered Entry → Numbered Call
+callOf (under n (answered c k)) = under n c
 
 -- the entries of accepted calls
-unfoldable pub accepted : List Entry → List Entry
+unfoldable pub accepted : List (Numbered Entry) → List (Numbered Entry)
 accepted [] = []
-accepted (answered c zero ∷ entries) = answered c zero ∷ accepted entries
-accepted (answered c (suc n) ∷ entries) = accepted entries
+accepted (under n (answered c zero) ∷ entries) = under n (answered c zero) ∷ accepted entries
+accepted (under n (answered c (suc k)) ∷ entries) = accepted entries
 
 -- the heads accepted, in order, by the arguments of their offers
 unfoldable pub heads : List Entry → Heads

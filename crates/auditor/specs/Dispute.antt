@@ -7,6 +7,7 @@ use Prim.Native.Nat.{ℕ, _*_}
 use lib.Dec.{ltb}
 use lib.ListN.{length, take, drop}
 use Rattle.octets.specs.Limits.{mostItem}
+use Rattle.hash.specs.Digest.{byNumber}
 use Rattle.tree.specs.Limits.{mostNodes}
 use Rattle.octets.specs.Bytes.{over, same}
 use Rattle.tree.specs.Verdict.{unless, inclusionVerdict}
@@ -82,3 +83,8 @@ module _ (H : List ℕ → List ℕ) where
       cond (ltb mostItem (length page₁)) (refused 1)
       (cond (ltb mostItem (length page₂)) (refused 1)
       (unless refused (inclusionVerdict H (H (0 ∷ page₁)) place size root path₁) (follow place page₁ page₂ path₂ pair heads size root path₁)))
+
+-- the same by the number of a hash
+unfoldable pub disputeBy : ℕ → List ℕ → ℕ → List ℕ → ℕ → List ℕ → Heads → List ℕ → List ℕ → ℕ → Finding
+disputeBy n page₁ place path₁ size root heads page₂ path₂ pair =
+    byNumber n (refused 16) (λ H. dispute H page₁ place path₁ size root heads page₂ path₂ pair)

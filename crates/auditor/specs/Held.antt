@@ -1,9 +1,11 @@
--- The auditor's record: document 01, 'Auditor'. Assumes nothing: these are definitions.
+-- The auditor's record: document 01, 'Auditor', and document 02, request 7. Assumes nothing: these are definitions.
 use mathlib.Core.Bool.{true, false, cond}
 use mathlib.Core.List.{List}
 use Prim.Native.Nat.{ℕ, zero, suc}
 use lib.ListN.{length, take, replicate}
 use Rattle.octets.specs.Bytes.{over}
+use Rattle.hash.specs.declared.Named.{Named}
+use Rattle.hash.specs.Algorithm.{algorithmOf, heldBy}
 use Rattle.auditor.specs.declared.Record.{Record}
 use Rattle.auditor.specs.declared.Answered.{Answered}
 
@@ -20,15 +22,19 @@ idOf r = take (r .idlen) (r .id)
 unfoldable pub view : Record → Held
 view r = cond (r .held) (head (idOf r) (r .timestamp) (r .size) (r .root)) empty
 
+-- the hash that a call by the number n goes by: none where no hash has it, or the record holds another
+unfoldable pub choice : Record → ℕ → Named
+choice r n = cond (r .held) (heldBy (r .algorithm) n) (algorithmOf n)
+
 -- the code's answer of a call that leaves the record as it was
 abbrev pub stayed : ℕ → Record → Answered
 stayed n r = record { number = n; after = r }
 
 -- the code's empty record
 unfoldable pub emptyRecord : Record
-emptyRecord = record { held = false; id = replicate 127 0; idlen = 0; timestamp = 0; size = 0; root = replicate 32 0 }
+emptyRecord = record { held = false; algorithm = 0; id = replicate 127 0; idlen = 0; timestamp = 0; size = 0; root = replicate 32 0 }
 
--- the code's record of a head: the log id has zeros after it
-unfoldable pub holding : List ℕ → ℕ → ℕ → List ℕ → Record
-holding id timestamp size root =
-    record { held = true; id = over id (replicate 127 0); idlen = length id; timestamp = timestamp; size = size; root = root }
+-- the code's record of a head under the number n: the log id has zeros after it
+unfoldable pub holding : ℕ → List ℕ → ℕ → ℕ → List ℕ → Record
+holding n id timestamp size root =
+    record { held = true; algorithm = n; id = over id (replicate 127 0); idlen = length id; timestamp = timestamp; size = size; root = root }

@@ -4,7 +4,7 @@ use mathlib.Core.Path.{_≡_}
 use mathlib.Core.List.{List, [], _∷_, _++_}
 use Prim.Native.Nat.{ℕ, zero, suc, _+_, _*_, _^_, _≤_, _<_}
 use lib.ListN.{length, take, drop}
-use Rattle.hash.specs.Digest.{sha256}
+use Rattle.hash.specs.Algorithm.{algorithmOf}
 use Rattle.tree.specs.Limits.{mostNodes}
 use Rattle.tree.specs.Build.{wrote}
 use Rattle.octets.specs.Answer.{Answer, done, refused}
@@ -12,9 +12,9 @@ use Rattle.auditor.specs.declared.Record.{Record}
 use Rattle.auditor.specs.Held.{emptyRecord}
 use Rattle.auditor.specs.Heads.{end, then, joinedHeads, headsOf, howMany}
 use Rattle.auditor.specs.Journal.{append, appendReport, journalAfter}
-use Rattle.auditor.specs.Dispute.{dispute, disputeReport, pairDisputed}
-use Rattle.auditor.specs.Calls.{Call, offer, ask, Entry, answered, called, answers, final, heads}
-use Rattle.auditor.specs.Demand.{Settles}
+use Rattle.auditor.specs.Dispute.{disputeBy, disputeReport, pairDisputed}
+use Rattle.auditor.specs.Calls.{Call, offer, ask, Entry, answered, Numbered, under, plain, called, answers, final, heads}
+use Rattle.auditor.specs.Demand.{Settles, OfHash}
 use Rattle.carry.specs.Limits.{pairBytes}
 
 -- a journal: the lent buffer and how many of its bytes are used; lost where an append was refused with a number
@@ -63,18 +63,20 @@ longestHead = 42 + 32 * (mostNodes + 1)
 -- How long a buffer is long enough: over every list of calls from any record, no append of an accepted head is then refused.
 abbrev pub LongEnough : Type 0
 LongEnough =
-    (r : Record) (calls : List Call) (lent : List ℕ) (start : ℕ) → start + longestHead * howMany (heads (answers r calls)) ≤ length lent →
-    (n : ℕ) → journaled (answers r calls) lent start ≡ lost n → ⊥
+    (r : Record) (calls : List (Numbered Call)) (lent : List ℕ) (start : ℕ) →
+    (let entries = plain (answers r calls) in
+    start + longestHead * howMany (heads entries) ≤ length lent → (n : ℕ) → journaled entries lent start ≡ lost n → ⊥)
 
 -- Demand 3 as a program calls. From the empty record any calls, then a page call that is accepted: the program keeps its arguments, and the size and root of
 -- the record that it got. Then any calls, each accepted head appended to a journal that was empty at that page call. Then a page call that is accepted at the
--- same place. The dispute about the two, over the size and root that were kept and the used part of the journal, settles them.
+-- same place. The two name one hash, and the dispute about them by its number, over the size and root that were kept and the used part of the journal,
+-- settles them.
 abbrev pub AsKept : Type 0
 AsKept =
-    (earlier between : List Call) (place : ℕ) (page₁ path₁ page₂ path₂ lent bytes : List ℕ) (used : ℕ) (pair : List ℕ) →
+    (earlier between : List (Numbered Call)) (n₁ n₂ place : ℕ) (page₁ path₁ page₂ path₂ lent bytes : List ℕ) (used : ℕ) (pair : List ℕ) →
     (let held = final emptyRecord earlier in
-    let first = called held (ask place page₁ path₁) in
-    let second = called (final (first .after) between) (ask place page₂ path₂) in
-    first .number ≡ 0 → journaled (answers (first .after) between) lent 0 ≡ kept bytes used → second .number ≡ 0 → pairBytes ≤ length pair →
-    (let d = dispute sha256 page₁ place path₁ (held .size) (held .root) (headsOf (take used bytes)) page₂ path₂ (length pair) in
-    Settles page₁ page₂ (disputeReport d) (pairDisputed d pair)))
+    let first = called held (under n₁ (ask place page₁ path₁)) in
+    let second = called (final (first .after) between) (under n₂ (ask place page₂ path₂)) in
+    first .number ≡ 0 → journaled (plain (answers (first .after) between)) lent 0 ≡ kept bytes used → second .number ≡ 0 → pairBytes ≤ length pair →
+    (let d = disputeBy n₁ page₁ place path₁ (held .size) (held .root) (headsOf (take used bytes)) page₂ path₂ (length pair) in
+    (n₁ ≡ n₂) × OfHash (algorithmOf n₁) (λ H. Settles H page₁ page₂ (disputeReport d) (pairDisputed d pair))))

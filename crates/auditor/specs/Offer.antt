@@ -4,13 +4,13 @@ use mathlib.Core.List.{List}
 use Prim.Native.Nat.{ℕ, zero, suc, _%_}
 use lib.Dec.{ltb, eqb}
 use lib.ListN.{length}
-use Rattle.hash.specs.Digest.{sha256}
+use Rattle.hash.specs.Digest.{byNamed}
 use Rattle.tree.specs.Limits.{largestSize}
 use Rattle.octets.specs.Bytes.{same}
 use Rattle.tree.specs.Verdict.{consistencyVerdict}
 use Rattle.auditor.specs.declared.Record.{Record}
 use Rattle.auditor.specs.declared.Answered.{Answered}
-use Rattle.auditor.specs.Held.{Held, empty, head, view, holding}
+use Rattle.auditor.specs.Held.{Held, empty, head, view, holding, stayed, choice}
 
 -- a size that no tree has
 unfoldable pub outside : ℕ → Bool
@@ -51,13 +51,17 @@ unfoldable pub kept : Held → List ℕ → ℕ → ℕ → List ℕ → ℕ →
 kept held id time size root zero = head id time size root
 kept held id time size root (suc n) = held
 
--- the same of the code's record
-unfoldable pub keptRecord : Record → List ℕ → ℕ → ℕ → List ℕ → ℕ → Record
-keptRecord r id time size root zero = holding id time size root
-keptRecord r id time size root (suc n) = r
+-- the same of the code's record: it holds the number of the hash
+unfoldable pub keptRecord : ℕ → Record → List ℕ → ℕ → ℕ → List ℕ → ℕ → Record
+keptRecord n r id time size root zero = holding n id time size root
+keptRecord n r id time size root (suc k) = r
 
--- what the code answers
-unfoldable pub offered : Record → List ℕ → ℕ → ℕ → List ℕ → List ℕ → Answered
-offered r id time size root path =
-    let n = offerNumber sha256 (view r) id time size root path in
-    record { number = n; after = keptRecord r id time size root n }
+-- what the code answers under the hash H, which has the number n
+unfoldable pub offeredOver : (List ℕ → List ℕ) → ℕ → Record → List ℕ → ℕ → ℕ → List ℕ → List ℕ → Answered
+offeredOver H n r id time size root path =
+    let k = offerNumber H (view r) id time size root path in
+    record { number = k; after = keptRecord n r id time size root k }
+
+-- what the code answers by a number
+unfoldable pub offered : ℕ → Record → List ℕ → ℕ → ℕ → List ℕ → List ℕ → Answered
+offered n r id time size root path = byNamed (choice r n) (stayed 16 r) (λ H. offeredOver H n r id time size root path)

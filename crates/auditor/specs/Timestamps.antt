@@ -9,7 +9,7 @@ use Rattle.octets.specs.Bytes.{same}
 use Rattle.tree.specs.Verdict.{consistencyVerdict}
 use Rattle.auditor.specs.Held.{empty, head, view, emptyRecord}
 use Rattle.auditor.specs.Offer.{outside, against}
-use Rattle.auditor.specs.Calls.{Call, offer, Entry, answered, called, answers, final, run}
+use Rattle.auditor.specs.Calls.{Call, offer, Entry, answered, Numbered, under, plain, called, answers, final, run}
 
 -- two accepted heads with one timestamp have one size and one root
 abbrev pub OneHeadEach : List Entry → Type 0
@@ -20,14 +20,19 @@ OneHeadEach entries =
 
 -- whatever an auditor is called with, over any hash; and of the code
 abbrev pub OneTimestamp : Type 0
-OneTimestamp = ((H : List ℕ → List ℕ) (calls : List Call) → OneHeadEach (run H empty calls)) × ((calls : List Call) → OneHeadEach (answers emptyRecord calls))
+OneTimestamp =
+    ((H : List ℕ → List ℕ) (calls : List Call) → OneHeadEach (run H empty calls)) ×
+    ((calls : List (Numbered Call)) → OneHeadEach (plain (answers emptyRecord calls)))
 
--- the head held, offered again with its timestamp or a later one: accepted with an empty path, and 7 with any other of whole nodes
+-- the head held, offered again by its number, with its timestamp or a later one: accepted with an empty path, and 7 with any other of whole nodes; by any
+-- other number it is 16
 abbrev pub HeldAgain : Type 0
 HeldAgain =
-    (calls : List Call) (id : List ℕ) (time again size : ℕ) (root path : List ℕ) →
-    view (final emptyRecord calls) ≡ head id time size root → time ≤ again → length path % 32 ≡ 0 →
-    called (final emptyRecord calls) (offer id again size root path) .number ≡ cond (eqb (length path) 0) 0 7
+    (calls : List (Numbered Call)) (id : List ℕ) (time again size : ℕ) (root path : List ℕ) →
+    (let end = final emptyRecord calls in
+    view end ≡ head id time size root → time ≤ again → length path % 32 ≡ 0 →
+    (called end (under (end .algorithm) (offer id again size root path)) .number ≡ cond (eqb (length path) 0) 0 7)
+    × ((n : ℕ) → (n ≡ end .algorithm → ⊥) → called end (under n (offer id again size root path)) .number ≡ 16))
 
 module _ (H : List ℕ → List ℕ) (id₀ : List ℕ) (time₀ size₀ : ℕ) (root₀ id : List ℕ) (time size : ℕ) (root path : List ℕ) where
   -- the number by the tests in their order, where the one for 12 says this

@@ -7,19 +7,23 @@ use carry::compare::Compared;
 use carry::compare::compare;
 use carry::forward::Carried;
 use carry::forward::carry;
+use hash::Algorithm;
 use hash::Digest;
+use hash::Named;
+use hash::algorithm_of;
+use hash::by_number::UNKNOWN;
 use tree::limits::MOST_NODES;
 use tree::verdict::inclusion_verdict;
 ghost use mathlib.Core.Path.{_≡_};
 ghost use mathlib.Core.List.{_∷_};
 ghost use Prim.Native.Nat.{_-_, _*_, _≤_};
 ghost use lib.ListN.{length, take};
-ghost use Rattle.hash.specs.Digest.{sha256};
+ghost use Rattle.hash.specs.Digest.{hashOf};
 ghost use Rattle.tree.specs.Verdict.{inclusionVerdict};
 ghost use Rattle.carry.specs.Forward.{carry as carryTo, carrying, carryReport, pathCarried, pairCarried};
 ghost use Rattle.carry.specs.Compare.{compare as compareTo};
 ghost use Rattle.auditor.specs.Heads.{headSize, headRoot, headCount, headPath, headsOf};
-ghost use Rattle.auditor.specs.Dispute.{longestPath, settled, follow, settling, disputeReport, pairDisputed};
+ghost use Rattle.auditor.specs.Dispute.{longestPath, settled, follow, settling, disputeReport, pairDisputed, disputeBy};
 ghost use Rattle.auditor.specs.Dispute as paper;
 
 // What a dispute answers: the pages are the same; two strings of nodes that differ and have one hash were written; the two pages, each with 0x00 before
@@ -42,6 +46,7 @@ fn path_buffer() -> [u8; LONGEST_PATH]
 
 // Carries the proof at hand by the first head of a buffer, which has `count` bytes.
 fn over_head(
+    alg: Algorithm,
     leaf: &[u8],
     place: u64,
     m: u64,
@@ -59,7 +64,7 @@ fn over_head(
         × (length (now out) ≡ longestPath) ⌝ }
     ensures { λ r. ⌜
         (let s = now (heads .entry) in
-        let o = carryTo sha256 (now (leaf .entry)) place m (headSize s) (now (root .entry)) (headRoot s) (now (path .entry)) (headPath s) longestPath
+        let o = carryTo (hashOf alg) (now (leaf .entry)) place m (headSize s) (now (root .entry)) (headRoot s) (now (path .entry)) (headPath s) longestPath
         (length (now (pair .entry))) in
         (carrying r ≡ carryReport o)
         × ((now (out .exit) ≡ pathCarried o (now (out .entry)))
@@ -67,6 +72,7 @@ fn over_head(
 {
     let n = size_of(heads);
     carry(
+        alg,
         leaf,
         place,
         m,
@@ -82,6 +88,7 @@ fn over_head(
 
 // The last step: two proofs under one head, and then the page bytes.
 fn settle(
+    alg: Algorithm,
     place: u64,
     size: u64,
     root: &[u8],
@@ -94,12 +101,12 @@ fn settle(
     pair: &mut [u8],
 ) -> Settled
     ensures { λ r. ⌜
-        (let compared = compareTo sha256 place size (now (root .entry)) (now (leaf1 .entry)) (now (path1 .entry)) (now (leaf2 .entry)) (now (path2 .entry))
+        (let compared = compareTo (hashOf alg) place size (now (root .entry)) (now (leaf1 .entry)) (now (path1 .entry)) (now (leaf2 .entry)) (now (path2 .entry))
         (length (now (pair .entry))) in
         let o = settled (now (page1 .entry)) (now (page2 .entry)) compared in
         (settling r ≡ disputeReport o) × (now (pair .exit) ≡ pairDisputed o (now (pair .entry)))) ⌝ }
 {
-    let compared = compare(place, size, root, leaf1, path1, leaf2, path2, pair);
+    let compared = compare(alg, place, size, root, leaf1, path1, leaf2, path2, pair);
     match compared {
         Compared::Refused(n) => return Settled::Refused(n),
         Compared::Collision => return Settled::Nodes,
@@ -114,6 +121,7 @@ fn settle(
 
 // From an accepted proof of the first page: over each head, and then to the end.
 fn work(
+    alg: Algorithm,
     place: u64,
     page1: &[u8],
     one: Digest,
@@ -129,10 +137,10 @@ fn work(
     requires { ⌜
         (length (now path1) ≤ longestPath)
         × (length (now root) ≡ 32)
-        × (one .bytes ≡ sha256 (0 ∷ now page1))
-        × (two .bytes ≡ sha256 (0 ∷ now page2)) ⌝ }
+        × (one .bytes ≡ (hashOf alg) (0 ∷ now page1))
+        × (two .bytes ≡ (hashOf alg) (0 ∷ now page2)) ⌝ }
     ensures { λ r. ⌜
-        (let o = follow sha256 place (now (page1 .entry)) (now (page2 .entry)) (now (path2 .entry)) (length (now (pair .entry)))
+        (let o = follow (hashOf alg) place (now (page1 .entry)) (now (page2 .entry)) (now (path2 .entry)) (length (now (pair .entry)))
         (headsOf (now (heads .entry))) size (now (root .entry)) (now (path1 .entry)) in
         (settling r ≡ disputeReport o) × (now (pair .exit) ≡ pairDisputed o (now (pair .entry)))) ⌝ }
 {
@@ -152,6 +160,7 @@ fn work(
         }
         let mut out = path_buffer();
         let carried = over_head(
+            alg,
             &leaf1,
             place,
             m,
@@ -175,6 +184,7 @@ fn work(
         }
     }
     settle(
+        alg,
         place,
         m,
         &held,
@@ -188,10 +198,10 @@ fn work(
     )
 }
 
-// Two pages at one place, from the arguments of accepted calls alone: the first page, its place and path, the size and root of the head then held, the
-// heads accepted since, and the second page with its path. Order: 1 for either page; the first proof's verdict; over each head 2 where it is cut
-// short, then what carrying refuses; then what comparing refuses. The first collision ends the work.
-pub fn dispute(
+// The dispute under one hash. Order: 1 for either page; the first proof's verdict; over each head 2 where it is cut short, then what carrying refuses;
+// then what comparing refuses. The first collision ends the work.
+fn dispute_by(
+    alg: Algorithm,
     page1: &[u8],
     place: u64,
     path1: &[u8],
@@ -203,26 +213,27 @@ pub fn dispute(
     pair: &mut [u8],
 ) -> Settled
     ensures { λ r. ⌜
-        (let o = paper.dispute sha256 (now (page1 .entry)) place (now (path1 .entry)) size (now (root .entry)) (headsOf (now (heads .entry)))
+        (let o = paper.dispute (hashOf alg) (now (page1 .entry)) place (now (path1 .entry)) size (now (root .entry)) (headsOf (now (heads .entry)))
         (now (page2 .entry)) (now (path2 .entry)) (length (now (pair .entry))) in
         (settling r ≡ disputeReport o) × (now (pair .exit) ≡ pairDisputed o (now (pair .entry)))) ⌝ }
 {
-    let first = hash::leaf(page1);
+    let first = hash::leaf(alg, page1);
     if first.number != 0 {
         return Settled::Refused(first.number);
     }
-    let second = hash::leaf(page2);
+    let second = hash::leaf(alg, page2);
     if second.number != 0 {
         return Settled::Refused(second.number);
     }
     let one = first.digest;
     let two = second.digest;
     let leaf = one.bytes;
-    let verdict = inclusion_verdict(&leaf, place, size, root, path1);
+    let verdict = inclusion_verdict(alg, &leaf, place, size, root, path1);
     if verdict != 0 {
         return Settled::Refused(verdict);
     }
     work(
+        alg,
         place,
         page1,
         one,
@@ -235,4 +246,43 @@ pub fn dispute(
         path2,
         pair,
     )
+}
+
+// Two pages at one place, from the arguments of accepted calls alone: the number of their hash, the first page, its place and path, the size and root of the
+// head then held, the heads accepted since, and the second page with its path. 16, before all else: no hash has the number. Then as `dispute_by`.
+pub fn dispute(
+    algorithm: u64,
+    page1: &[u8],
+    place: u64,
+    path1: &[u8],
+    size: u64,
+    root: &[u8],
+    heads: &[u8],
+    page2: &[u8],
+    path2: &[u8],
+    pair: &mut [u8],
+) -> Settled
+    ensures { λ r. ⌜
+        (let o = disputeBy algorithm (now (page1 .entry)) place (now (path1 .entry)) size (now (root .entry)) (headsOf (now (heads .entry)))
+        (now (page2 .entry)) (now (path2 .entry)) (length (now (pair .entry))) in
+        (settling r ≡ disputeReport o) × (now (pair .exit) ≡ pairDisputed o (now (pair .entry)))) ⌝ }
+{
+    let named = algorithm_of(algorithm);
+    match named {
+        Named::By(alg) => {
+            dispute_by(
+                alg,
+                page1,
+                place,
+                path1,
+                size,
+                root,
+                heads,
+                page2,
+                path2,
+                pair,
+            )
+        }
+        Named::Unknown => Settled::Refused(UNKNOWN),
+    }
 }

@@ -5,13 +5,17 @@ use super::bytes::root_of;
 use super::bytes::same_log;
 use crate::Answered;
 use crate::Record;
+use crate::chosen;
 use crate::unchanged;
+use hash::Algorithm;
+use hash::Named;
+use hash::by_number::UNKNOWN;
 use tree::verdict::consistency_verdict;
 ghost use mathlib.Core.Path.{_≡_};
 ghost use lib.ListN.{length};
-ghost use Rattle.hash.specs.Digest.{sha256};
+ghost use Rattle.hash.specs.Digest.{hashOf};
 ghost use Rattle.auditor.specs.Held.{view, idOf};
-ghost use Rattle.auditor.specs.Offer.{outside, first, stale, against, offerNumber, offered};
+ghost use Rattle.auditor.specs.Offer.{outside, first, stale, against, offerNumber, offeredOver, offered};
 
 // Whether no tree has this size.
 fn no_size(size: u64) -> bool
@@ -47,9 +51,17 @@ fn is_stale(r: Record, timestamp: u64, size: u64, root: &[u8]) -> bool
 }
 
 // A later head, against the one held: 11, 6, 12, 13, then the consistency verdict.
-fn later_number(r: Record, id: &[u8], timestamp: u64, size: u64, root: &[u8], path: &[u8]) -> u32
+fn later_number(
+    alg: Algorithm,
+    r: Record,
+    id: &[u8],
+    timestamp: u64,
+    size: u64,
+    root: &[u8],
+    path: &[u8],
+) -> u32
     ensures { λ n. ⌜
-        n ≡ against sha256 (idOf r) (r .timestamp) (r .size) (r .root) (now (id .entry)) timestamp size (now (root .entry)) (now (path .entry)) ⌝ }
+        n ≡ against (hashOf alg) (idOf r) (r .timestamp) (r .size) (r .root) (now (id .entry)) timestamp size (now (root .entry)) (now (path .entry)) ⌝ }
 {
     if !same_log(r, id) {
         return 11;
@@ -67,12 +79,20 @@ fn later_number(r: Record, id: &[u8], timestamp: u64, size: u64, root: &[u8], pa
         return 13;
     }
     let held = r.root;
-    consistency_verdict(r.size, size, &held, root, path)
+    consistency_verdict(alg, r.size, size, &held, root, path)
 }
 
 // The number of an offer.
-fn number(r: Record, id: &[u8], timestamp: u64, size: u64, root: &[u8], path: &[u8]) -> u32
-    ensures { λ n. ⌜ n ≡ offerNumber sha256 (view r) (now (id .entry)) timestamp size (now (root .entry)) (now (path .entry)) ⌝ }
+fn number(
+    alg: Algorithm,
+    r: Record,
+    id: &[u8],
+    timestamp: u64,
+    size: u64,
+    root: &[u8],
+    path: &[u8],
+) -> u32
+    ensures { λ n. ⌜ n ≡ offerNumber (hashOf alg) (view r) (now (id .entry)) timestamp size (now (root .entry)) (now (path .entry)) ⌝ }
 {
     if root.len() != 32 {
         return 5;
@@ -87,22 +107,31 @@ fn number(r: Record, id: &[u8], timestamp: u64, size: u64, root: &[u8], path: &[
         return 10;
     }
     if r.held {
-        return later_number(r, id, timestamp, size, root, path);
+        return later_number(alg, r, id, timestamp, size, root, path);
     }
     first_number(size, path)
 }
 
-// Offers a head with its log id, timestamp, size and root, and the consistency path to it from the head held, which is empty for the first. An accepted
-// head replaces the record; a refusal returns it as it was. Order: 5, 10, 6, 7 for the first; 5, 10, 11, 6, 12, 13, 7, 8 for a later one.
-pub fn offer(r: Record, id: &[u8], timestamp: u64, size: u64, root: &[u8], path: &[u8]) -> Answered
-    ensures { λ o. ⌜ o ≡ offered r (now (id .entry)) timestamp size (now (root .entry)) (now (path .entry)) ⌝ }
+// An offer under one hash, the one that has the number. Order: 5, 10, 6, 7 for the first head; 5, 10, 11, 6, 12, 13, 7, 8 for a later one.
+fn offer_by(
+    alg: Algorithm,
+    algorithm: u64,
+    r: Record,
+    id: &[u8],
+    timestamp: u64,
+    size: u64,
+    root: &[u8],
+    path: &[u8],
+) -> Answered
+    ensures { λ o. ⌜ o ≡ offeredOver (hashOf alg) algorithm r (now (id .entry)) timestamp size (now (root .entry)) (now (path .entry)) ⌝ }
 {
-    let n = number(r, id, timestamp, size, root, path);
+    let n = number(alg, r, id, timestamp, size, root, path);
     if n != 0 {
         return unchanged(n, r);
     }
     let after = Record {
         held: true,
+        algorithm,
         id: id_of(id),
         idlen: id.len(),
         timestamp,
@@ -110,4 +139,25 @@ pub fn offer(r: Record, id: &[u8], timestamp: u64, size: u64, root: &[u8], path:
         root: root_of(root),
     };
     Answered { number: 0, after }
+}
+
+// Offers a head with its log id, timestamp, size and root, and the consistency path to it from the head held, which is empty for the first. An accepted
+// head replaces the record, which then holds the number of the hash; a refusal returns it as it was. 16, before all else: no hash has the number, or the
+// record holds another. Then as `offer_by`.
+pub fn offer(
+    algorithm: u64,
+    r: Record,
+    id: &[u8],
+    timestamp: u64,
+    size: u64,
+    root: &[u8],
+    path: &[u8],
+) -> Answered
+    ensures { λ o. ⌜ o ≡ offered algorithm r (now (id .entry)) timestamp size (now (root .entry)) (now (path .entry)) ⌝ }
+{
+    let named = chosen(r, algorithm);
+    match named {
+        Named::By(alg) => offer_by(alg, algorithm, r, id, timestamp, size, root, path),
+        Named::Unknown => unchanged(UNKNOWN, r),
+    }
 }

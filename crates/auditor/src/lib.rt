@@ -14,7 +14,7 @@ ghost use mathlib.Core.Path.{_≡_};
 ghost use Rattle.octets.specs.Answer.{Faithful};
 ghost use Rattle.auditor.specs.Dispute.{settling};
 ghost use Rattle.auditor.specs.Journal.{appending};
-ghost use Rattle.auditor.specs.Held.{emptyRecord, stayed};
+ghost use Rattle.auditor.specs.Held.{emptyRecord, stayed, choice};
 ghost use Rattle.auditor.specs.Demand.{Demand3, WhateverGiven, TwoAuditors};
 ghost use Rattle.auditor.specs.Keeping.{JournalJoins, AppendedReadsBack, LongEnough, AsKept};
 ghost use Rattle.auditor.specs.Examples.{Disputed};
@@ -22,10 +22,15 @@ ghost use Rattle.auditor.specs.Timestamps.{OneTimestamp, HeldAgain, Only
 ghost use Rattle.auditor.specs.Claims.{HeldIsAccepted, RefusedAddNothing, NeverBack, HonestLog, GrownHeads};
 use bytes::no_id;
 use bytes::no_root;
+use hash::Named;
+use hash::algorithm_held;
+use hash::algorithm_of;
 
-// Nothing, where `held` is false; else the head that was accepted last. Its log id is the first `idlen` bytes of `id`.
+// Nothing, where `held` is false; else the head that was accepted last, and the number of the hash that every accepted call went by. Its log id is the
+// first `idlen` bytes of `id`.
 pub struct Record {
     pub held: bool,
+    pub algorithm: u64,
     pub id: [u8; 127],
     pub idlen: usize,
     pub timestamp: u64,
@@ -45,12 +50,23 @@ pub fn empty() -> Record
 {
     Record {
         held: false,
+        algorithm: 0,
         id: no_id(),
         idlen: 0,
         timestamp: 0,
         size: 0,
         root: no_root(),
     }
+}
+
+// The hash that a call by this number goes by: none where no hash has it, or the record holds another.
+pub(crate) fn chosen(r: Record, algorithm: u64) -> Named
+    ensures { λ n. ⌜ n ≡ choice r algorithm ⌝ }
+{
+    if r.held {
+        return algorithm_held(algorithm, r.algorithm);
+    }
+    algorithm_of(algorithm)
 }
 
 // The answer of a call that leaves the record as it was: a refusal, or a page.

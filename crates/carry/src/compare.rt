@@ -4,6 +4,7 @@ use super::level::Recomputed;
 use super::level::above;
 use super::level::start;
 use super::limits::PAIR;
+use hash::Algorithm;
 use hash::Digest;
 use tree::nodes::node_at;
 use tree::split::split_of;
@@ -11,7 +12,7 @@ use tree::verdict::inclusion_verdict;
 ghost use mathlib.Core.Path.{_≡_};
 ghost use Prim.Native.Nat.{_*_, _≤_, _<_};
 ghost use lib.ListN.{length};
-ghost use Rattle.hash.specs.Digest.{sha256};
+ghost use Rattle.hash.specs.Digest.{hashOf};
 ghost use Rattle.tree.specs.Count.{inclusionCount};
 ghost use Rattle.tree.specs.Joined.{firstNodes};
 ghost use Rattle.tree.specs.Yield.{inclusionRoot};
@@ -28,6 +29,7 @@ pub enum Compared {
 
 // Both roots, and the topmost child pairs that differ, by the first `count` nodes of two paths: each node is computed once, bottom up.
 fn recompute(
+    alg: Algorithm,
     one: Digest,
     two: Digest,
     place: u64,
@@ -42,7 +44,7 @@ fn recompute(
         × (32 * count ≤ length (now first))
         × (32 * count ≤ length (now second)) ⌝ }
     ensures { λ r. ⌜
-        (let H = sha256 in
+        (let H = hashOf alg in
         let p = firstNodes count (now (first .entry)) in
         let q = firstNodes count (now (second .entry)) in
         (r .one .bytes ≡ inclusionRoot H place size (one .bytes) p)
@@ -57,20 +59,21 @@ fn recompute(
     let x = node_at(first, c);
     let y = node_at(second, c);
     if place < k {
-        let low = recompute(one, two, place, k, first, second, c);
+        let low = recompute(alg, one, two, place, k, first, second, c);
         let u = low.one;
         let v = low.two;
-        return above(u, x, v, y, low);
+        return above(alg, u, x, v, y, low);
     }
-    let high = recompute(one, two, place - k, size - k, first, second, c);
+    let high = recompute(alg, one, two, place - k, size - k, first, second, c);
     let u = high.one;
     let v = high.two;
-    above(x, u, y, v, high)
+    above(alg, x, u, y, v, high)
 }
 
 // Whether two inclusion proofs for one place, size and root are the same; where they are not, the topmost two strings that differ are
 // written at the start of the pair buffer. Refusals: the first proof's verdict, the second's, then 9 for a pair buffer under 130 bytes.
 pub fn compare(
+    alg: Algorithm,
     place: u64,
     size: u64,
     root: &[u8],
@@ -81,15 +84,15 @@ pub fn compare(
     pair: &mut [u8],
 ) -> Compared
     ensures { λ r. ⌜
-        (let o = paper.compare sha256 place size (now (root .entry)) (now (leaf1 .entry)) (now (path1 .entry)) (now (leaf2 .entry)) (now (path2 .entry))
+        (let o = paper.compare (hashOf alg) place size (now (root .entry)) (now (leaf1 .entry)) (now (path1 .entry)) (now (leaf2 .entry)) (now (path2 .entry))
         (length (now (pair .entry))) in
         (comparing r ≡ compareReport o) × (now (pair .exit) ≡ pairCompared o (now (pair .entry)))) ⌝ }
 {
-    let first = inclusion_verdict(leaf1, place, size, root, path1);
+    let first = inclusion_verdict(alg, leaf1, place, size, root, path1);
     if first != 0 {
         return Compared::Refused(first);
     }
-    let second = inclusion_verdict(leaf2, place, size, root, path2);
+    let second = inclusion_verdict(alg, leaf2, place, size, root, path2);
     if second != 0 {
         return Compared::Refused(second);
     }
@@ -98,6 +101,7 @@ pub fn compare(
     }
     let count = path1.len() / 32;
     let recomputed = recompute(
+        alg,
         node_at(leaf1, 0),
         node_at(leaf2, 0),
         place,

@@ -5,12 +5,13 @@ use super::bytes::put_pair;
 use super::bytes::put_path;
 use super::limits::PAIR;
 use super::walk::walk;
+use hash::Algorithm;
 use tree::nodes::node_at;
 use tree::verdict::consistency_verdict;
 use tree::verdict::inclusion_verdict;
 ghost use mathlib.Core.Path.{_≡_};
 ghost use lib.ListN.{length};
-ghost use Rattle.hash.specs.Digest.{sha256};
+ghost use Rattle.hash.specs.Digest.{hashOf};
 ghost use Rattle.tree.specs.Verdict.{inclusionVerdict, consistencyVerdict};
 ghost use Rattle.octets.specs.Answer.{Answer};
 ghost use Rattle.carry.specs.Inner.{either};
@@ -26,6 +27,7 @@ pub enum Carried {
 
 // The refusal of two proofs of which one is refused: the inclusion verdict's number, or the consistency verdict's.
 fn refusal(
+    alg: Algorithm,
     leaf: &[u8],
     place: u64,
     m: u64,
@@ -36,21 +38,22 @@ fn refusal(
     proof: &[u8],
 ) -> Carried
     ensures { λ r. ⌜
-        (let H = sha256 in
+        (let H = hashOf alg in
         let inclusion = inclusionVerdict H (now (leaf .entry)) place m (now (old .entry)) (now (path .entry)) in
         let consistency = consistencyVerdict H m n (now (old .entry)) (now (new .entry)) (now (proof .entry)) in
         carrying r ≡ Answer.refused (either inclusion consistency)) ⌝ }
 {
-    let inclusion = inclusion_verdict(leaf, place, m, old, path);
+    let inclusion = inclusion_verdict(alg, leaf, place, m, old, path);
     if inclusion != 0 {
         return Carried::Refused(inclusion);
     }
-    Carried::Refused(consistency_verdict(m, n, old, new, proof))
+    Carried::Refused(consistency_verdict(alg, m, n, old, new, proof))
 }
 
 // Carries an inclusion proof at m leaves to n by a consistency proof from m to n: writes the new path, or the two strings of a collision.
 // Refusals: the inclusion verdict, the consistency verdict, then 9 for a path buffer shorter than the path at n or a pair buffer under 130.
 pub fn carry(
+    alg: Algorithm,
     leaf: &[u8],
     place: u64,
     m: u64,
@@ -63,7 +66,7 @@ pub fn carry(
     pair: &mut [u8],
 ) -> Carried
     ensures { λ r. ⌜
-        (let o = paper.carry sha256 (now (leaf .entry)) place m n (now (old .entry)) (now (new .entry)) (now (path .entry)) (now (proof .entry))
+        (let o = paper.carry (hashOf alg) (now (leaf .entry)) place m n (now (old .entry)) (now (new .entry)) (now (path .entry)) (now (proof .entry))
         (length (now (out .entry))) (length (now (pair .entry))) in
         (carrying r ≡ carryReport o)
         × ((now (out .exit) ≡ pathCarried o (now (out .entry)))
@@ -79,11 +82,12 @@ pub fn carry(
         path.len(),
         proof.len(),
     ) {
-        return refusal(leaf, place, m, n, old, new, path, proof);
+        return refusal(alg, leaf, place, m, n, old, new, path, proof);
     }
     let p = path.len() / 32;
     let q = proof.len() / 32;
     let walked = walk(
+        alg,
         node_at(leaf, 0),
         place,
         m,
@@ -100,7 +104,7 @@ pub fn carry(
     let two = recomputed.two;
     let whole = walked.new;
     if !agree(one, two, whole, old, new) {
-        return refusal(leaf, place, m, n, old, new, path, proof);
+        return refusal(alg, leaf, place, m, n, old, new, path, proof);
     }
     let low = walked.low;
     let hashed = walked.hashed;

@@ -1,4 +1,5 @@
 // One level of two proofs of one root.
+use hash::Algorithm;
 use hash::Digest;
 use tree::nodes::equals;
 ghost use mathlib.Core.Path.{_≡_};
@@ -47,11 +48,18 @@ fn pairs(a: Digest, b: Digest, c: Digest, d: Digest) -> bool
 }
 
 // One level up: two child pairs, and what was recomputed below them. Pairs that are the same are hashed once.
-pub(crate) fn above(a: Digest, b: Digest, c: Digest, d: Digest, below: Recomputed) -> Recomputed
-    ensures { λ r. ⌜ (r .one .bytes ≡ nodeHash (a .bytes) (b .bytes)) × (r .two .bytes ≡ nodeHash (c .bytes) (d .bytes)) ⌝ }
+pub(crate) fn above(
+    alg: Algorithm,
+    a: Digest,
+    b: Digest,
+    c: Digest,
+    d: Digest,
+    below: Recomputed,
+) -> Recomputed
+    ensures { λ r. ⌜ (r .one .bytes ≡ nodeHash alg (a .bytes) (b .bytes)) × (r .two .bytes ≡ nodeHash alg (c .bytes) (d .bytes)) ⌝ }
     ensures { λ r. ⌜ differenceOf r ≡ topmost (string (a .bytes) (b .bytes)) (string (c .bytes) (d .bytes)) (differenceOf below) ⌝ }
 {
-    let root = hash::node(a, b);
+    let root = hash::node(alg, a, b);
     if pairs(a, b, c, d) {
         let w = below.a;
         let x = below.b;
@@ -69,7 +77,7 @@ pub(crate) fn above(a: Digest, b: Digest, c: Digest, d: Digest, below: Recompute
     }
     Recomputed {
         one: root,
-        two: hash::node(c, d),
+        two: hash::node(alg, c, d),
         apart: true,
         a,
         b,

@@ -2,6 +2,7 @@
 use super::level::Recomputed;
 use super::level::above;
 use super::level::start;
+use hash::Algorithm;
 use hash::Digest;
 use tree::nodes::node_at;
 use tree::split::split_of;
@@ -10,7 +11,7 @@ use tree::yields::yielded_roots;
 ghost use mathlib.Core.Path.{_≡_};
 ghost use Prim.Native.Nat.{_+_, _*_, _≤_, _<_};
 ghost use lib.ListN.{length};
-ghost use Rattle.hash.specs.Digest.{sha256};
+ghost use Rattle.hash.specs.Digest.{hashOf};
 ghost use Rattle.tree.specs.Count.{inclusionCount, subproofCount};
 ghost use Rattle.tree.specs.Joined.{firstNodes};
 ghost use Rattle.tree.specs.Yield.{inclusionRoot, oldRoot, newRoot};
@@ -30,6 +31,7 @@ pub(crate) struct Walked {
 
 // The walk at place x of the first m of n leaves, with p nodes of the old path and q of the consistency path.
 pub(crate) fn walk(
+    alg: Algorithm,
     leaf: Digest,
     x: u64,
     m: u64,
@@ -49,7 +51,7 @@ pub(crate) fn walk(
         × (q ≡ subproofCount m n known)
         × (32 * q ≤ length (now proof)) ⌝ }
     ensures { λ r. ⌜
-        (let H = sha256 in
+        (let H = hashOf alg in
         let ps = firstNodes p (now (path .entry)) in
         let qs = firstNodes q (now (proof .entry)) in
         (r .recomputed .one .bytes ≡ inclusionRoot H x m (leaf .bytes) ps)
@@ -60,8 +62,8 @@ pub(crate) fn walk(
         × ((r .low ≤ p) × (r .hashed ≤ 1) × (r .high ≤ q))))))) ⌝ }
 {
     if m == n {
-        let y = yielded_root(leaf, x, m, path);
-        let whole = yielded_roots(first, m, n, known, proof);
+        let y = yielded_root(alg, leaf, x, m, path);
+        let whole = yielded_roots(alg, first, m, n, known, proof);
         let old = whole.old;
         let new = whole.new;
         return Walked {
@@ -77,13 +79,13 @@ pub(crate) fn walk(
     let j = q - 1;
     let top = node_at(proof, j);
     if m <= k {
-        let below = walk(leaf, x, m, k, known, path, p, first, proof, j);
+        let below = walk(alg, leaf, x, m, k, known, path, p, first, proof, j);
         let recomputed = below.recomputed;
         let new = below.new;
         let sibling = below.sibling;
         return Walked {
             recomputed,
-            new: hash::node(new, top),
+            new: hash::node(alg, new, top),
             low: below.low,
             hashed: below.hashed,
             sibling,
@@ -93,28 +95,40 @@ pub(crate) fn walk(
     let i = p - 1;
     let side = node_at(path, i);
     if x < k {
-        let y = yielded_root(leaf, x, k, path);
-        let rest = yielded_roots(first, m - k, n - k, false, proof);
+        let y = yielded_root(alg, leaf, x, k, path);
+        let rest = yielded_roots(alg, first, m - k, n - k, false, proof);
         let old = rest.old;
         let new = rest.new;
         return Walked {
-            recomputed: above(y, side, top, old, start(y, old)),
-            new: hash::node(top, new),
+            recomputed: above(alg, y, side, top, old, start(y, old)),
+            new: hash::node(alg, top, new),
             low: i,
             hashed: 1,
             sibling: new,
             high: q,
         };
     }
-    let below = walk(leaf, x - k, m - k, n - k, false, path, i, first, proof, j);
+    let below = walk(
+        alg,
+        leaf,
+        x - k,
+        m - k,
+        n - k,
+        false,
+        path,
+        i,
+        first,
+        proof,
+        j,
+    );
     let recomputed = below.recomputed;
     let y = recomputed.one;
     let old = recomputed.two;
     let new = below.new;
     let sibling = below.sibling;
     Walked {
-        recomputed: above(side, y, top, old, recomputed),
-        new: hash::node(top, new),
+        recomputed: above(alg, side, y, top, old, recomputed),
+        new: hash::node(alg, top, new),
         low: below.low,
         hashed: below.hashed,
         sibling,

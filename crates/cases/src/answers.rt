@@ -17,14 +17,19 @@ pub(crate) struct Answer {
     pub(crate) end: usize,
 }
 
-// Up to three numbers.
-pub(crate) fn words(a: u64, b: u64, c: u64) -> Answer {
+// Up to five numbers.
+pub(crate) fn five(a: u64, b: u64, c: u64, d: u64, e: u64) -> Answer {
     Answer {
         count: 12,
-        number: [a, b, c, 0, 0, 0, 0, 0, 0, 0, 0, 0],
+        number: [a, b, c, d, e, 0, 0, 0, 0, 0, 0, 0],
         mid: 0,
         end: 0,
     }
+}
+
+// Up to three.
+pub(crate) fn words(a: u64, b: u64, c: u64) -> Answer {
+    five(a, b, c, 0, 0)
 }
 
 // A refusal, or 0.

@@ -22,11 +22,12 @@ fn id_from(s: &[u8]) -> [u8; 127] {
 
 fn record(n: Numbers, id: &[u8], root: &[u8]) -> Record {
     Record {
-        held: n.a == 1,
+        held: n.b == 1,
+        algorithm: n.c,
         id: id_from(id),
-        idlen: n.b as usize,
-        timestamp: n.c,
-        size: n.d,
+        idlen: n.d as usize,
+        timestamp: n.e,
+        size: n.f,
         root: hash_from(root),
     }
 }
@@ -46,11 +47,11 @@ fn answered(a: Answered, lent: &mut [u8]) -> Answer {
         number: [
             a.number as u64,
             r.held as u64,
+            r.algorithm,
             0,
             r.idlen as u64,
             r.timestamp,
             r.size,
-            0,
             0,
             0,
             0,
@@ -88,14 +89,14 @@ fn offer(
     lent: &mut [u8],
 ) -> Answer {
     answered(
-        auditor::head::offer(record(n, id, root), log, n.e, n.f, head, path),
+        auditor::head::offer(n.a, record(n, id, root), log, n.g, n.h, head, path),
         lent,
     )
 }
 
 fn page(n: Numbers, id: &[u8], root: &[u8], bytes: &[u8], path: &[u8], lent: &mut [u8]) -> Answer {
     answered(
-        auditor::page::ask(record(n, id, root), n.e, bytes, path),
+        auditor::page::ask(n.a, record(n, id, root), n.g, bytes, path),
         lent,
     )
 }
@@ -110,7 +111,7 @@ fn dispute(
     path2: &[u8],
     lent: &mut [u8],
 ) -> Answer {
-    settled(auditor::dispute::dispute(page1, n.a, path1, n.b, root, heads, page2, path2, lent))
+    settled(auditor::dispute::dispute(n.a, page1, n.b, path1, n.c, root, heads, page2, path2, lent))
 }
 
 fn append(n: Numbers, root: &[u8], path: &[u8], lent: &mut [u8]) -> Answer {

@@ -40,11 +40,12 @@ fn forward(
     lent: &mut [u8],
 ) -> Answer {
     let mut p = memory();
-    let c = carry::forward::carry(
-        leaf,
+    let c = carry::by_number::carry(
         n.a,
+        leaf,
         n.b,
         n.c,
+        n.d,
         root,
         second,
         path,
@@ -65,7 +66,7 @@ fn compare(
     path2: &[u8],
     lent: &mut [u8],
 ) -> Answer {
-    compared(carry::compare::compare(n.a, n.b, root, leaf1, path1, leaf2, path2, lent))
+    compared(carry::by_number::compare(n.a, n.b, n.c, root, leaf1, path1, leaf2, path2, lent))
 }
 
 pub(crate) fn answer(

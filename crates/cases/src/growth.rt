@@ -1,12 +1,12 @@
 // What the entries of the crate growing call. A tree's hashes are joined in the lent buffer: at its start, or behind what the calls of a list answered.
 use crate::answers::Answer;
 use crate::answers::behind;
+use crate::answers::five;
 use crate::answers::keep_at;
 use crate::answers::strings;
-use crate::answers::words;
 use crate::cut::part;
 use crate::hashing::digest_from;
-use crate::hashing::kept;
+use crate::hashing::hashed;
 use crate::request::Numbers;
 use crate::trees::built;
 use growing::Growing;
@@ -21,7 +21,10 @@ const HASHES: usize = 32 * MOST_HASHES;
 
 const TOLD: usize = 33;
 
-fn tree_from(s: &[u8], count: u64) -> Growing {
+// The bytes in front of a call of a list: its kind, its number, its length.
+const HEAD: usize = 7;
+
+fn tree_from(algorithm: u64, s: &[u8], count: u64) -> Growing {
     let none = digest_from(b"");
     let mut hashes = [none; MOST_HASHES];
     let mut i = 0;
@@ -29,7 +32,11 @@ fn tree_from(s: &[u8], count: u64) -> Growing {
         hashes[i] = digest_from(part(s, 32 * i, 32 * i + 32));
         i += 1;
     }
-    Growing { hashes, count }
+    Growing {
+        algorithm,
+        hashes,
+        count,
+    }
 }
 
 fn keep_digest(d: Digest, at: usize, lent: &mut [u8]) {
@@ -50,62 +57,73 @@ fn keep_hashes(g: Growing, lent: &mut [u8]) {
 fn grown(a: Grown, lent: &mut [u8]) -> Answer {
     let g = a.after;
     keep_hashes(g, lent);
-    strings(words(a.number as u64, 0, g.count), HASHES, 0)
+    strings(five(a.number as u64, g.algorithm, 0, g.count, 0), HASHES, 0)
 }
 
 // Where the call at a place of a list ends; 0 where no whole call stands there.
 fn call_end(calls: &[u8], at: usize) -> usize {
-    if calls.len() < 5 {
+    if calls.len() < HEAD {
         return 0;
     }
-    if at > calls.len() - 5 {
+    if at > calls.len() - HEAD {
         return 0;
     }
     if calls[at] > 1 {
         return 0;
     }
-    let n = octets::number_at(part(calls, at + 1, at + 5), 0, octets::Width::Four);
-    let room = calls.len() - 5 - at;
+    let n = octets::number_at(part(calls, at + 3, at + HEAD), 0, octets::Width::Four);
+    let room = calls.len() - HEAD - at;
     if n > room as u64 {
         return 0;
     }
-    at + 5 + n as usize
+    at + HEAD + n as usize
 }
 
 fn page_at(calls: &[u8], at: usize) -> bool {
     at < calls.len() && calls[at] == 0
 }
 
-// Its bytes, behind its first five.
-fn body(calls: &[u8], at: usize, end: usize) -> &[u8] {
-    if end < 5 {
-        return &calls[..0];
+// The number that it goes by.
+fn number_at(calls: &[u8], at: usize) -> u64 {
+    if at >= calls.len() {
+        return 0;
     }
-    if at > end - 5 {
-        return &calls[..0];
-    }
-    part(calls, at + 5, end)
+    octets::number_at(part(calls, at, calls.len()), 1, octets::Width::Two)
 }
 
-fn call(g: Growing, page: bool, bytes: &[u8]) -> Grown {
-    if page {
-        return add_page(g, bytes);
+// Its bytes, behind its head.
+fn body(calls: &[u8], at: usize, end: usize) -> &[u8] {
+    if end < HEAD {
+        return &calls[..0];
     }
-    add_leaves(g, bytes)
+    if at > end - HEAD {
+        return &calls[..0];
+    }
+    part(calls, at + HEAD, end)
+}
+
+fn call(algorithm: u64, g: Growing, page: bool, bytes: &[u8]) -> Grown {
+    if page {
+        return add_page(algorithm, g, bytes);
+    }
+    add_leaves(algorithm, g, bytes)
 }
 
 // Puts the number of a call and the root after it behind those of the calls before.
-fn tell(a: Grown, made: usize, lent: &mut [u8]) {
+fn tell(algorithm: u64, a: Grown, made: usize, lent: &mut [u8]) {
     if made > 1000 {
         return;
     }
     keep_at(&[(a.number % 256) as u8], TOLD * made, lent);
-    keep_digest(growing::root(a.after), TOLD * made + 1, lent);
+    let root = growing::root(algorithm, a.after);
+    let digest = root.digest;
+    keep_digest(digest, TOLD * made + 1, lent);
 }
 
 // A list of calls from a new tree, at most 1,000 of them.
-fn grow(calls: &[u8], lent: &mut [u8]) -> Answer {
-    let mut g = growing::new();
+fn grow(algorithm: u64, calls: &[u8], lent: &mut [u8]) -> Answer {
+    let new = growing::new(algorithm);
+    let mut g = new.after;
     let mut at = 0;
     let mut made = 0;
     while made < 1000 {
@@ -113,26 +131,36 @@ fn grow(calls: &[u8], lent: &mut [u8]) -> Answer {
         if end == 0 {
             break;
         }
-        let a = call(g, page_at(calls, at), body(calls, at, end));
-        tell(a, made, lent);
+        let a = call(
+            number_at(calls, at),
+            g,
+            page_at(calls, at),
+            body(calls, at, end),
+        );
+        tell(algorithm, a, made, lent);
         g = a.after;
         at = end;
         made += 1;
     }
     keep_hashes(g, behind(TOLD * made, lent));
-    strings(words(0, 0, g.count), TOLD * made, HASHES)
+    strings(
+        five(new.number as u64, 0, g.algorithm, 0, g.count),
+        TOLD * made,
+        HASHES,
+    )
 }
 
-fn root_into(g: Growing, lent: &mut [u8]) -> Answer {
-    built(growing::root_into(g, lent))
+fn root_into(algorithm: u64, g: Growing, lent: &mut [u8]) -> Answer {
+    built(growing::root_into(algorithm, g, lent))
 }
 
 pub(crate) fn answer(entry: u8, n: Numbers, a: &[u8], b: &[u8], lent: &mut [u8]) -> Answer {
     match entry {
-        b'a' => grown(add_page(tree_from(a, n.a), b), lent),
-        b'b' => grown(add_leaves(tree_from(a, n.a), b), lent),
-        b'c' => kept(0, growing::root(tree_from(a, n.a)), lent),
-        b'd' => root_into(tree_from(a, n.a), lent),
-        _ => grow(a, lent),
+        b'a' => grown(add_page(n.a, tree_from(n.b, a, n.c), b), lent),
+        b'b' => grown(add_leaves(n.a, tree_from(n.b, a, n.c), b), lent),
+        b'c' => hashed(growing::root(n.a, tree_from(n.b, a, n.c)), lent),
+        b'd' => root_into(n.a, tree_from(n.b, a, n.c), lent),
+        b'e' => grow(n.a, a, lent),
+        _ => grown(growing::new(n.a), lent),
     }
 }

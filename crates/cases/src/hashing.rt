@@ -1,4 +1,4 @@
-// What the entries of the crates hash and sha256 call.
+// What the entries of the crates hash, sha256 and sm3 call.
 ghost use mathlib.Core.Path.{_≡_};
 ghost use lib.ListN.{length};
 use crate::answers::Answer;
@@ -7,10 +7,12 @@ use crate::answers::keep;
 use crate::answers::one;
 use crate::answers::strings;
 use crate::cut::part;
+use crate::request::Numbers;
 use hash::Digest;
 use hash::Hashed;
-use sha256::State;
-use sha256::Stepped;
+use hash::by_number;
+use words::State;
+use words::Stepped;
 
 // 32 bytes as an array; of another length, zeros.
 pub(crate) fn hash_from(s: &[u8]) -> [u8; 32] {
@@ -21,13 +23,13 @@ pub(crate) fn hash_from(s: &[u8]) -> [u8; 32] {
     b
 }
 
-pub(crate) fn kept(number: u32, d: Digest, lent: &mut [u8]) -> Answer {
+fn kept(number: u32, d: Digest, lent: &mut [u8]) -> Answer {
     let b = d.bytes;
     keep(&b, lent);
     strings(one(number), 32, 0)
 }
 
-fn hashed(h: Hashed, lent: &mut [u8]) -> Answer {
+pub(crate) fn hashed(h: Hashed, lent: &mut [u8]) -> Answer {
     kept(h.number, h.digest, lent)
 }
 
@@ -37,8 +39,11 @@ pub(crate) fn digest_from(s: &[u8]) -> Digest {
     }
 }
 
-fn node(a: &[u8], b: &[u8], lent: &mut [u8]) -> Answer {
-    kept(0, hash::node(digest_from(a), digest_from(b)), lent)
+fn node(algorithm: u64, a: &[u8], b: &[u8], lent: &mut [u8]) -> Answer {
+    hashed(
+        by_number::node(algorithm, digest_from(a), digest_from(b)),
+        lent,
+    )
 }
 
 // Word t of a list of words, four bytes each, the highest first.
@@ -108,10 +113,13 @@ fn stepped(number: u32, s: State, w: &[u32; 256], lent: &mut [u8]) -> Answer {
     one(number)
 }
 
-// A step in the first n words of a schedule.
-fn step_in(s: State, block: &[u8], w: &mut [u32], n: usize) -> Stepped {
+// A step of either hash in the first n words of a schedule.
+fn step_in(second: bool, s: State, block: &[u8], w: &mut [u32], n: usize) -> Stepped {
     if n > w.len() {
         return Stepped::Refused(0);
+    }
+    if second {
+        return sm3::step(s, block, &mut w[..n]);
     }
     sha256::step(s, block, &mut w[..n])
 }
@@ -124,20 +132,28 @@ fn told(after: Stepped, s: State, w: &[u32; 256], lent: &mut [u8]) -> Answer {
     }
 }
 
-fn step(state: &[u8], block: &[u8], schedule: &[u8], lent: &mut [u8]) -> Answer {
+fn step(second: bool, state: &[u8], block: &[u8], schedule: &[u8], lent: &mut [u8]) -> Answer {
     let s = state_from(state);
     let mut w = words_from(schedule);
-    let after = step_in(s, block, &mut w, schedule.len() / 4);
+    let after = step_in(second, s, block, &mut w, schedule.len() / 4);
     strings(told(after, s, &w, lent), 32, schedule.len())
 }
 
-pub(crate) fn answer(entry: u8, a: &[u8], b: &[u8], c: &[u8], lent: &mut [u8]) -> Answer {
+pub(crate) fn answer(
+    entry: u8,
+    n: Numbers,
+    a: &[u8],
+    b: &[u8],
+    c: &[u8],
+    lent: &mut [u8],
+) -> Answer {
     match entry {
-        b'a' => hashed(hash::digest_of(a), lent),
-        b'b' => hashed(hash::leaf(a), lent),
-        b'c' => node(a, b, lent),
-        b'd' => one(hash::digest_into(a, lent)),
-        b'e' => one(hash::leaf_into(a, lent)),
-        _ => step(a, b, c, lent),
+        b'a' => hashed(by_number::digest_of(n.a, a), lent),
+        b'b' => hashed(by_number::leaf(n.a, a), lent),
+        b'c' => node(n.a, a, b, lent),
+        b'd' => one(by_number::digest_into(n.a, a, lent)),
+        b'e' => one(by_number::leaf_into(n.a, a, lent)),
+        b'f' => step(false, a, b, c, lent),
+        _ => step(true, a, b, c, lent),
     }
 }

@@ -166,6 +166,7 @@ pub(crate) struct Numbers {
     pub(crate) e: u64,
     pub(crate) f: u64,
     pub(crate) g: u64,
+    pub(crate) h: u64,
 }
 
 pub(crate) fn numbers_of(r: Request) -> Numbers {
@@ -178,6 +179,7 @@ pub(crate) fn numbers_of(r: Request) -> Numbers {
         e: n[4],
         f: n[5],
         g: n[6],
+        h: n[7],
     }
 }
 

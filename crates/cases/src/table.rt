@@ -17,36 +17,38 @@ use crate::trees;
 
 // A line for each entry: its name; a letter for its crate and one for the entry; a letter for each argument (request.rt); a letter for each word of its
 // answer (answers.rt).
-pub(crate) fn rows() -> [u8; 656] {
-    *b"digest ha b nm\n\
-leaf hb b nm\n\
-node hc hh m\n\
-digest_into hd bl nl\n\
-leaf_into he bl nl\n\
+pub(crate) fn rows() -> [u8; 729] {
+    *b"digest ha nb nm\n\
+leaf hb nb nm\n\
+node hc nhh nm\n\
+digest_into hd nbl nl\n\
+leaf_into he nbl nl\n\
 step hf hbw nmp\n\
-root ta bl nnl\n\
-path tb bnl nnl\n\
-consistency_path tc bnl nnl\n\
-inclusion td bnnbb n\n\
-consistency te nnbbb n\n\
+sm3_step hg hbw nmp\n\
+root ta nbl nnl\n\
+path tb nbnl nnl\n\
+consistency_path tc nbnl nnl\n\
+inclusion td nbnnbb n\n\
+consistency te nnnbbb n\n\
 inclusion_count tf nn n\n\
 subproof_count tg nnf n\n\
-grow_page ga gnb nmn\n\
-grow_leaves gb gnb nmn\n\
-grow_root gc gn m\n\
-grow_root_into gd gnl nnl\n\
-grow ge b mpn\n\
-carry ca bnnbbnbbbb nnnmp\n\
-compare cb nnbbbbbl nnl\n\
+grow_page ga nngnb nnmn\n\
+grow_leaves gb nngnb nnmn\n\
+grow_root gc nngn nm\n\
+grow_root_into gd nngnl nnl\n\
+grow ge nb nmnpn\n\
+grow_new gf n nnmn\n\
+carry ca nbnnbbnbbbb nnnmp\n\
+compare cb nnnbbbbbl nnl\n\
 read ia b nnnnnnnnnnnn\n\
 write ib snbbbbbnnnbbnsbl nnnl\n\
 newer ic bb m\n\
 path_into id bnnl nnnl\n\
 first_read ie ssb nnnnnnnnnnnn\n\
 first_write if sssnnsbbbbbbl nnnl\n\
-offer aa finnnhbnnbb nnmnnnp\n\
-page ab finnnhnbb nnmnnnp\n\
-dispute ac bnbnbbbbl nnl\n\
+offer aa nfninnnhbnnbb nnnmnnnp\n\
+page ab nfninnnhnbb nnnmnnnp\n\
+dispute ac nbnbnbbbbl nnl\n\
 append ad lnnbb nnl\n"
 }
 
@@ -82,7 +84,7 @@ pub(crate) fn answer(code: &[u8], r: Request, mem: &[u8], lent: &mut [u8]) -> An
     let layer = code[0];
     let entry = code[1];
     match layer {
-        b'h' => hashing::answer(entry, a, b, c, lent),
+        b'h' => hashing::answer(entry, n, a, b, c, lent),
         b't' => trees::answer(entry, n, a, b, c, lent),
         b'g' => growth::answer(entry, n, a, b, lent),
         _ => upper(layer, entry, n, a, b, c, r, mem, lent),

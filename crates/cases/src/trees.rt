@@ -4,12 +4,9 @@ use crate::answers::one;
 use crate::answers::words;
 use crate::request::Numbers;
 use tree::build::Built;
-use tree::build::consistency_path;
-use tree::build::inclusion_path;
+use tree::by_number;
 use tree::count::inclusion_count;
 use tree::count::subproof_count;
-use tree::verdict::consistency_verdict;
-use tree::verdict::inclusion_verdict;
 
 pub(crate) fn built(b: Built) -> Answer {
     match b {
@@ -18,16 +15,16 @@ pub(crate) fn built(b: Built) -> Answer {
     }
 }
 
-fn root(leaves: &[u8], lent: &mut [u8]) -> Answer {
-    built(tree::build::root(leaves, lent))
+fn root(leaves: &[u8], n: Numbers, lent: &mut [u8]) -> Answer {
+    built(by_number::root(n.a, leaves, lent))
 }
 
 fn path(leaves: &[u8], n: Numbers, lent: &mut [u8]) -> Answer {
-    built(inclusion_path(leaves, n.a, lent))
+    built(by_number::inclusion_path(n.a, leaves, n.b, lent))
 }
 
 fn subproof(leaves: &[u8], n: Numbers, lent: &mut [u8]) -> Answer {
-    built(consistency_path(leaves, n.a, lent))
+    built(by_number::consistency_path(n.a, leaves, n.b, lent))
 }
 
 fn inclusion_nodes(n: Numbers) -> Answer {
@@ -47,11 +44,11 @@ pub(crate) fn answer(
     lent: &mut [u8],
 ) -> Answer {
     match entry {
-        b'a' => root(a, lent),
+        b'a' => root(a, n, lent),
         b'b' => path(a, n, lent),
         b'c' => subproof(a, n, lent),
-        b'd' => one(inclusion_verdict(a, n.a, n.b, b, c)),
-        b'e' => one(consistency_verdict(n.a, n.b, a, b, c)),
+        b'd' => one(by_number::inclusion_verdict(n.a, a, n.b, n.c, b, c)),
+        b'e' => one(by_number::consistency_verdict(n.a, n.b, n.c, a, b, c)),
         b'f' => inclusion_nodes(n),
         _ => subproof_nodes(n),
     }

@@ -3,6 +3,7 @@ use crate::bytes::Made;
 use crate::bytes::blank;
 use crate::bytes::first;
 use crate::bytes::slice;
+use crate::log::HASH;
 use crate::log::Head;
 use crate::log::leaf;
 use crate::say;
@@ -46,6 +47,7 @@ fn offered(r: Record, id: &[u8], head: Head, path: Made) -> Answered {
     let root = head.root;
     let nodes = path.bytes;
     auditor::head::offer(
+        HASH,
         r,
         id,
         head.timestamp,
@@ -82,7 +84,13 @@ fn tell_page(what: &[u8], place: u64, size: u64, page: Made) {
 fn asked(r: Record, place: u64, page: Made, path: Made) -> Answered {
     let bytes = page.bytes;
     let nodes = path.bytes;
-    auditor::page::ask(r, place, slice(&bytes, page.len), slice(&nodes, path.len))
+    auditor::page::ask(
+        HASH,
+        r,
+        place,
+        slice(&bytes, page.len),
+        slice(&nodes, path.len),
+    )
 }
 
 // Asks for a page at a place, with its path under the head held.
@@ -143,6 +151,7 @@ fn disputed(
     let more = later.bytes;
     let mut pair = blank();
     dispute(
+        HASH,
         slice(&bytes, page.len),
         place,
         slice(&nodes, path.len),

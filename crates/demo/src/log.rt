@@ -12,8 +12,11 @@ use growing::add::add_leaves;
 use growing::add::add_page;
 use hash::Hashed;
 use tree::build::Built;
-use tree::build::consistency_path;
-use tree::build::inclusion_path;
+use tree::by_number::consistency_path;
+use tree::by_number::inclusion_path;
+
+// The number of the archive's hash, SHA-256.
+pub(crate) const HASH: u64 = 0x00;
 
 // The tree of `size` pages, and their leaf hashes, joined; the number of the first refusal, or 0.
 pub struct Log {
@@ -32,11 +35,13 @@ pub struct Head {
 }
 
 pub(crate) fn empty() -> Log {
+    let new = growing::new(HASH);
+    let tree = new.after;
     Log {
-        number: 0,
+        number: new.number,
         size: 0,
         leaves: blank(),
-        tree: growing::new(),
+        tree,
     }
 }
 
@@ -51,7 +56,7 @@ fn hashes(size: usize) -> usize {
 // The leaf hash of a page.
 pub(crate) fn leaf(page: Made) -> Hashed {
     let bytes = page.bytes;
-    hash::leaf(slice(&bytes, page.len))
+    hash::by_number::leaf(HASH, slice(&bytes, page.len))
 }
 
 fn put_leaf(leaves: [u8; 256], place: usize, leaf: Hashed) -> [u8; 256] {
@@ -84,7 +89,7 @@ pub(crate) fn add(log: Log, page: Made) -> Log {
         return log;
     }
     let bytes = page.bytes;
-    let grown = add_page(log.tree, slice(&bytes, page.len));
+    let grown = add_page(HASH, log.tree, slice(&bytes, page.len));
     with(log, size, page, size + 1, grown)
 }
 
@@ -92,7 +97,8 @@ pub(crate) fn add(log: Log, page: Made) -> Log {
 pub(crate) fn save_over(log: Log, place: usize, page: Made) -> Log {
     let before = log.leaves;
     let leaves = put_leaf(before, place, leaf(page));
-    let grown = add_leaves(growing::new(), slice(&leaves, hashes(log.size)));
+    let new = growing::new(HASH);
+    let grown = add_leaves(HASH, new.after, slice(&leaves, hashes(log.size)));
     with(log, place, page, log.size, grown)
 }
 
@@ -110,10 +116,10 @@ pub(crate) fn noted(log: Log, number: u32) -> Log {
 
 // The head over all pages so far.
 pub(crate) fn head_of(log: Log, timestamp: u64) -> Head {
-    let made = growing::root(log.tree);
-    let root = made.bytes;
+    let made = growing::root(HASH, log.tree);
+    let root = made.digest.bytes;
     Head {
-        number: log.number,
+        number: first(log.number, made.number),
         timestamp,
         size: log.tree.count,
         root,
@@ -139,7 +145,7 @@ fn built(log: Log, answer: Built, bytes: [u8; 256]) -> Made {
 pub(crate) fn inclusion(log: Log, size: usize, place: u64) -> Made {
     let leaves = log.leaves;
     let mut bytes = blank();
-    let answer = inclusion_path(slice(&leaves, hashes(size)), place, &mut bytes);
+    let answer = inclusion_path(HASH, slice(&leaves, hashes(size)), place, &mut bytes);
     built(log, answer, bytes)
 }
 
@@ -147,7 +153,7 @@ pub(crate) fn inclusion(log: Log, size: usize, place: u64) -> Made {
 pub(crate) fn consistency(log: Log, from: u64) -> Made {
     let leaves = log.leaves;
     let mut bytes = blank();
-    let answer = consistency_path(slice(&leaves, hashes(log.size)), from, &mut bytes);
+    let answer = consistency_path(HASH, slice(&leaves, hashes(log.size)), from, &mut bytes);
     built(log, answer, bytes)
 }
 

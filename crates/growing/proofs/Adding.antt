@@ -71,7 +71,7 @@ unfolding valueBytes
 value-0 most m v e = rw e
 
 -- an answer by its two fields
-grown-of : (r : Grown) (n : ℕ) (g : Growing) → r .number ≡ n → r .after ≡ g → r ≡ record { number = n; after = g }
+pub grown-of : (r : Grown) (n : ℕ) (g : Growing) → r .number ≡ n → r .after ≡ g → r ≡ record { number = n; after = g }
 grown-of r n g p q = ap₂ (λ (number : ℕ) (after : Growing). record { number = number; after = after }) p q
 
 module _ (H : List ℕ → List ℕ) where
@@ -113,6 +113,12 @@ module _ (H : List ℕ → List ℕ) where
   unfolding withLeaves withLeaf
   with-count g [] = omega arith
   with-count g (x ∷ l) = let e = with-count (withLeaf H g (digest x)) l in omega arith
+
+  -- the number that a tree holds stays
+  pub with-number : (g : Growing) (l : List (List ℕ)) → withLeaves H g l .algorithm ≡ g .algorithm
+  unfolding withLeaves withLeaf
+  with-number g [] = refl
+  with-number g (x ∷ l) = with-number (withLeaf H g (digest x)) l
 
   -- a page brings its leaf hash, joined with no other
   pub brought-page : (page h : List ℕ) → length h ≡ 32 → h ≡ leaf H page → firstNodes 1 h ≡ brought H (ofPage page)

@@ -25,7 +25,7 @@ use Rattle.growing.specs.Calls.{Call, ofPage, ofLeaves, roomNumber, call
 use Rattle.growing.specs.Claims.{Follows, FollowsAll, HoweverCut, AllTaken, RefusedUnchanged, Takes}
 use Rattle.growing.proofs.Holding.{Holds, holds-none, holds-more, holds-full, holds-at, holds-zeros, merged-length, length-snoc}
 use Rattle.growing.proofs.Stepping.{root-now-of}
-use Rattle.growing.proofs.Adding.{given, room-fits, refused, accepted, with-append, with-count}
+use Rattle.growing.proofs.Adding.{given, room-fits, refused, accepted, with-append, with-count, with-number}
 
 module _ (H : List ℕ → List ℕ) where
   -- a tree with k levels has the leaves l
@@ -34,8 +34,8 @@ module _ (H : List ℕ → List ℕ) where
     pub counted : g .count ≡ length l
     pub held : Holds H (g .hashes) l
 
-  pub has-none : Has mostHashes fresh []
-  has-none = record { levels = length-replicate mostHashes nothing; counted = refl; held = holds-none H mostHashes }
+  pub has-none : (n : ℕ) → Has mostHashes (fresh n) []
+  has-none n = record { levels = length-replicate mostHashes nothing; counted = refl; held = holds-none H mostHashes }
 
   has-one : (k : ℕ) (g : Growing) (l : List (List ℕ)) (x : List ℕ) → length l + 1 < 2 ^ k → Has k g l → Has k (withLeaf H g (digest x)) (l ++ (x ∷ []))
   unfolding withLeaf
@@ -71,6 +71,9 @@ module _ (H : List ℕ → List ℕ) where
   unfolding withLeaves
   tree-of g c = by-number g c (λ o k. o .after ≡ withLeaves H g k) (λ e. refl) (λ n. refl)
 
+  pub keeps-number : (g : Growing) (c : Call) → grownBy H g c .after .algorithm ≡ g .algorithm
+  keeps-number g c = ap (λ (t : Growing). t .algorithm) (tree-of g c) ∙ with-number H g (kept g c)
+
   pub one-by-one : (g : Growing) (calls : List Call) → treeAfter H g calls ≡ withLeaves H g (leavesTaken H g calls)
   unfolding withLeaves treeAfter leavesTaken
   one-by-one g [] = refl
@@ -99,10 +102,11 @@ module _ (H : List ℕ → List ℕ) where
       omega arith
 
   -- a tree that has the leaves l
-  follows : (g : Growing) (l : List (List ℕ)) → length l ≤ largestSize → g ≡ withLeaves H fresh l → Has mostHashes g l → Follows H g l
-  follows g l w e p =
+  follows : (n : ℕ) (g : Growing) (l : List (List ℕ)) → length l ≤ largestSize → g ≡ withLeaves H (fresh n) l → Has mostHashes g l → Follows H n g l
+  follows n g l w e p =
       let f = holds-full H (g .hashes) l (g .count) (p .counted) (p .held) in
       record {
+        number = ap (λ (t : Growing). t .algorithm) e ∙ with-number H (fresh n) l;
         root-of-all = root-now-of H g ∙ ap (together H) f ∙ together-full H l;
         count-of-all = p .counted;
         within = w;
@@ -115,14 +119,14 @@ module _ (H : List ℕ → List ℕ) where
       }
 
   pub follows-all : FollowsAll H
-  follows-all calls =
-      let l = leavesTaken H fresh calls in
-      let w : length l ≤ largestSize = let v = within fresh calls (omega arith) in omega arith in
-      let p = has-more mostHashes fresh [] l (omega arith) has-none in
-      follows (treeAfter H fresh calls) l w (one-by-one fresh calls) (rw (one-by-one fresh calls) p)
+  follows-all n calls =
+      let l = leavesTaken H (fresh n) calls in
+      let w : length l ≤ largestSize = let v = within (fresh n) calls (omega arith) in omega arith in
+      let p = has-more mostHashes (fresh n) [] l (omega arith) (has-none n) in
+      follows n (treeAfter H (fresh n) calls) l w (one-by-one (fresh n) calls) (rw (one-by-one (fresh n) calls) p)
 
   pub however-cut : HoweverCut H
-  however-cut calls others e = one-by-one fresh calls ∙ ap (withLeaves H fresh) e ∙ sym (one-by-one fresh others)
+  however-cut n calls others e = one-by-one (fresh n) calls ∙ ap (withLeaves H (fresh n)) e ∙ sym (one-by-one (fresh n) others)
 
   pub all-taken : AllTaken H
   unfolding leavesTaken allBrought AllAccepted
@@ -147,15 +151,15 @@ module _ (H : List ℕ → List ℕ) where
   unfolding allBrought brought
   leaves-brought leaves = append-nil (nodes leaves)
 
-  pub pages-taken : (pages : List (List ℕ)) → AllAccepted H fresh (map ofPage pages) → leavesTaken H fresh (map ofPage pages) ≡ map (leaf H) pages
-  pages-taken pages a = all-taken fresh (map ofPage pages) a ∙ pages-brought pages
+  pub pages-taken : (n : ℕ) (pages : List (List ℕ)) → AllAccepted H (fresh n) (map ofPage pages) → leavesTaken H (fresh n) (map ofPage pages) ≡ map (leaf H) pages
+  pages-taken n pages a = all-taken (fresh n) (map ofPage pages) a ∙ pages-brought pages
 
-  pub leaves-taken : (leaves : List ℕ) → AllAccepted H fresh (ofLeaves leaves ∷ []) → leavesTaken H fresh (ofLeaves leaves ∷ []) ≡ nodes leaves
-  leaves-taken leaves a = all-taken fresh (ofLeaves leaves ∷ []) a ∙ leaves-brought leaves
+  pub leaves-taken : (n : ℕ) (leaves : List ℕ) → AllAccepted H (fresh n) (ofLeaves leaves ∷ []) → leavesTaken H (fresh n) (ofLeaves leaves ∷ []) ≡ nodes leaves
+  leaves-taken n leaves a = all-taken (fresh n) (ofLeaves leaves ∷ []) a ∙ leaves-brought leaves
 
   pub takes : Takes H
   unfolding mth
   takes = record {
-    pages = λ pages a. follows-all (map ofPage pages) .root-of-all ∙ ap (root H) (pages-taken pages a);
-    leaves = λ leaves a. follows-all (ofLeaves leaves ∷ []) .root-of-all ∙ ap (root H) (leaves-taken leaves a);
+    pages = λ n pages a. follows-all n (map ofPage pages) .root-of-all ∙ ap (root H) (pages-taken n pages a);
+    leaves = λ n leaves a. follows-all n (ofLeaves leaves ∷ []) .root-of-all ∙ ap (root H) (leaves-taken n leaves a);
   }

@@ -2,8 +2,9 @@
 pub mod Stepping
 pub mod Holding
 pub mod Adding
-pub mod OfSha256
+pub mod OfHash
 pub mod Accepting
 pub mod Calling
 pub mod Showing
+pub mod Numbering
 pub mod Every

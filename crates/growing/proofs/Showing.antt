@@ -60,33 +60,33 @@ module _ (H : List ℕ → List ℕ) where
         go false = all-none
 
     -- the builders' list, and its count
-    list-of : (calls : List Call) → nodes (joined (leavesTaken H fresh calls)) ≡ leavesTaken H fresh calls
-    list-of calls = nodes-joined (leavesTaken H fresh calls) (taken-32 fresh calls)
+    list-of : (n : ℕ) (calls : List Call) → nodes (joined (leavesTaken H (fresh n) calls)) ≡ leavesTaken H (fresh n) calls
+    list-of n calls = nodes-joined (leavesTaken H (fresh n) calls) (taken-32 (fresh n) calls)
 
-    count-of : (calls : List Call) → length (joined (leavesTaken H fresh calls)) / 32 ≡ treeAfter H fresh calls .count
-    count-of calls =
-        let e = joined-length (leavesTaken H fresh calls) (taken-32 fresh calls) in
-        let d = follows-all H calls .count-of-all in
+    count-of : (n : ℕ) (calls : List Call) → length (joined (leavesTaken H (fresh n) calls)) / 32 ≡ treeAfter H (fresh n) calls .count
+    count-of n calls =
+        let e = joined-length (leavesTaken H (fresh n) calls) (taken-32 (fresh n) calls) in
+        let d = follows-all H n calls .count-of-all in
         omega arith
 
-    root-of : (calls : List Call) → root H (nodes (joined (leavesTaken H fresh calls))) ≡ rootNow H (treeAfter H fresh calls)
-    root-of calls = ap (root H) (list-of calls) ∙ sym (follows-all H calls .root-of-all)
+    root-of : (n : ℕ) (calls : List Call) → root H (nodes (joined (leavesTaken H (fresh n) calls))) ≡ rootNow H (treeAfter H (fresh n) calls)
+    root-of n calls = ap (root H) (list-of n calls) ∙ sym (follows-all H n calls .root-of-all)
 
     -- the leaves of an earlier moment are the first of those of a later one
-    earlier : (calls more : List Call) → root H (take (treeAfter H fresh calls .count) (nodes (joined (leavesTaken H fresh (calls ++ more))))) ≡ rootNow H (treeAfter H fresh calls)
-    earlier calls more =
-        let l = leavesTaken H fresh calls in
-        let d = follows-all H calls .count-of-all in
-        ap (λ (t : List (List ℕ)). root H (take (treeAfter H fresh calls .count) t)) (list-of (calls ++ more) ∙ taken-append fresh calls more)
-        ∙ ap (root H) (take-at l (leavesTaken H (treeAfter H fresh calls) more) (treeAfter H fresh calls .count) (sym d))
-        ∙ sym (follows-all H calls .root-of-all)
+    earlier : (n : ℕ) (calls more : List Call) → root H (take (treeAfter H (fresh n) calls .count) (nodes (joined (leavesTaken H (fresh n) (calls ++ more))))) ≡ rootNow H (treeAfter H (fresh n) calls)
+    earlier n calls more =
+        let l = leavesTaken H (fresh n) calls in
+        let d = follows-all H n calls .count-of-all in
+        ap (λ (t : List (List ℕ)). root H (take (treeAfter H (fresh n) calls .count) t)) (list-of n (calls ++ more) ∙ taken-append (fresh n) calls more)
+        ∙ ap (root H) (take-at l (leavesTaken H (treeAfter H (fresh n) calls) more) (treeAfter H (fresh n) calls .count) (sym d))
+        ∙ sym (follows-all H n calls .root-of-all)
 
     pub shown-all : ShownAll H
-    shown-all calls = record {
+    shown-all n calls = record {
       inclusion = λ place room w e.
-          rw (count-of calls, root-of calls) at (complete H H32 .inclusion (joined (leavesTaken H fresh calls)) w place room e);
+          rw (count-of n calls, root-of n calls) at (complete H H32 .inclusion (joined (leavesTaken H (fresh n) calls)) w place room e);
       consistency = λ more room w e.
-          rw (count-of (calls ++ more), root-of (calls ++ more), earlier calls more) at (complete H H32 .consistency (joined (leavesTaken H fresh (calls ++ more))) w (treeAfter H fresh calls .count) room e);
+          rw (count-of n (calls ++ more), root-of n (calls ++ more), earlier n calls more) at (complete H H32 .consistency (joined (leavesTaken H (fresh n) (calls ++ more))) w (treeAfter H (fresh n) calls .count) room e);
     }
 
     -- the leaf hashes of pages, joined
@@ -96,9 +96,9 @@ module _ (H : List ℕ → List ℕ) where
     pages-32 (p ∷ pages) = (H32 (0 ∷ p), pages-32 pages)
 
     pub pages-or-joined : PagesOrJoined H
-    pages-or-joined pages a b =
-        however-cut H (map ofPage pages) (ofLeaves (joined (map (leaf H) pages)) ∷ [])
-        (pages-taken H pages a ∙ sym (leaves-taken H (joined (map (leaf H) pages)) b ∙ nodes-joined (map (leaf H) pages) (pages-32 pages)))
+    pages-or-joined n pages a b =
+        however-cut H n (map ofPage pages) (ofLeaves (joined (map (leaf H) pages)) ∷ [])
+        (pages-taken H n pages a ∙ sym (leaves-taken H n (joined (map (leaf H) pages)) b ∙ nodes-joined (map (leaf H) pages) (pages-32 pages)))
 
     -- ---- one root of one count
 
@@ -157,8 +157,8 @@ module _ (H : List ℕ → List ℕ) where
 
     pub same-leaves : SameLeaves H
     unfolding Binds
-    same-leaves calls others e r =
-        let f = follows-all H calls in
-        let g = follows-all H others in
-        binds (leavesTaken H fresh calls) (leavesTaken H fresh others) (sym (g .count-of-all) ∙ sym e ∙ f .count-of-all) (taken-32 fresh calls) (taken-32 fresh others)
+    same-leaves n calls others e r =
+        let f = follows-all H n calls in
+        let g = follows-all H n others in
+        binds (leavesTaken H (fresh n) calls) (leavesTaken H (fresh n) others) (sym (g .count-of-all) ∙ sym e ∙ f .count-of-all) (taken-32 (fresh n) calls) (taken-32 (fresh n) others)
         (sym (f .root-of-all) ∙ r ∙ g .root-of-all)

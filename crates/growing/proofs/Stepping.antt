@@ -79,13 +79,13 @@ module _ (H : List ℕ → List ℕ) (s : List Digest) (i n : ℕ) (right : List
   pub above-end : length s ≤ i → above H s i n right ≡ right
   above-end h = ap (λ (l : List (List ℕ)). together H (l ++ (right ∷ []))) (counting-end s i n h) ∙ together-one H right
 
--- a tree by its two fields, and its root
-abbrev pub grown : List Digest → ℕ → Growing
-grown hashes count = record { hashes = hashes; count = count }
+-- a tree by its fields, and its root
+abbrev pub grown : ℕ → List Digest → ℕ → Growing
+grown algorithm hashes count = record { algorithm = algorithm; hashes = hashes; count = count }
 
-pub with-leaf-of : (H : List ℕ → List ℕ) (g : Growing) (s : List Digest) (n : ℕ) (x : Digest) → s ≡ merged H (g .hashes) (g .count) x → n ≡ g .count + 1 → grown s n ≡ withLeaf H g x
+pub with-leaf-of : (H : List ℕ → List ℕ) (g : Growing) (s : List Digest) (n : ℕ) (x : Digest) → s ≡ merged H (g .hashes) (g .count) x → n ≡ g .count + 1 → grown (g .algorithm) s n ≡ withLeaf H g x
 unfolding withLeaf
-with-leaf-of H g s n x e d = ap₂ grown e d
+with-leaf-of H g s n x e d = ap₂ (grown (g .algorithm)) e d
 
 pub root-now-of : (H : List ℕ → List ℕ) (g : Growing) → rootNow H g ≡ together H (counting (g .hashes) (g .count))
 unfolding rootNow

@@ -6,14 +6,17 @@ use mathlib.Core.List.{List, [], _∷_, _++_}
 use Prim.Native.Nat.{ℕ, _+_, _/_}
 use lib.Dec.{ltb, eqb}
 use lib.ListN.{length}
+use Rattle.hash.specs.declared.Hashed.{Hashed}
+use Rattle.hash.specs.Algorithm.{heldBy}
+use Rattle.hash.specs.Digest.{byNamed, byNumber}
 use Rattle.octets.specs.Limits.{mostItem}
 use Rattle.tree.specs.Limits.{largestSize}
 use Rattle.tree.specs.Tree.{leaf}
 use Rattle.tree.specs.Joined.{nodes}
-use Rattle.tree.specs.Build.{Outcome, into, unfit}
+use Rattle.tree.specs.Build.{Outcome, refused, into, unfit}
 use Rattle.growing.specs.declared.Growing.{Growing}
 use Rattle.growing.specs.declared.Grown.{Grown}
-use Rattle.growing.specs.Hashes.{withLeaves, rootNow}
+use Rattle.growing.specs.Hashes.{digest, nothing, fresh, withLeaves, rootNow}
 
 -- a call with its bytes: one page, or joined leaf hashes
 pub data Call : Type 0 where
@@ -62,3 +65,33 @@ module _ (H : List ℕ → List ℕ) where
   unfoldable pub AllAccepted : Growing → List Call → Type 0
   AllAccepted g [] = Unit {0}
   AllAccepted g (c ∷ calls) = (grownBy g c .number ≡ 0) × AllAccepted (grownBy g c .after) calls
+
+-- ---- by number: 16 before all else, where the number is not the tree's or no hash has it
+
+-- a new tree. What stands beside 16 holds the number too, and so refuses every call
+unfoldable pub made : ℕ → Grown
+made n = byNumber n (record { number = 16; after = fresh n }) (λ H. record { number = 0; after = fresh n })
+
+-- a call by the number n
+unfoldable pub grownIn : ℕ → Growing → Call → Grown
+grownIn n g c = byNamed (heldBy (g .algorithm) n) (record { number = 16; after = g }) (λ H. grownBy H g c)
+
+-- the root by value, or 32 zeros; and into an output of `room` bytes
+unfoldable pub rootIn : ℕ → Growing → Hashed
+rootIn n g =
+    byNamed (heldBy (g .algorithm) n) (record { number = 16; digest = nothing }) (λ H. record { number = 0; digest = digest (rootNow H g) })
+
+unfoldable pub rootIntoIn : ℕ → Growing → ℕ → Outcome
+rootIntoIn n g room = byNamed (heldBy (g .algorithm) n) (refused 16) (λ H. rootInto H g room)
+
+-- a call with the number that it is made by, the tree after a list of them, and those of them that are made by n
+pub data Numbered : Type 0 where
+  under : ℕ → Call → Numbered
+
+unfoldable pub treeIn : Growing → List Numbered → Growing
+treeIn g [] = g
+treeIn g (under n c ∷ calls) = treeIn (grownIn n g c .after) calls
+
+unfoldable pub calledBy : ℕ → List Numbered → List Call
+calledBy n [] = []
+calledBy n (under m c ∷ calls) = cond (eqb m n) (c ∷ calledBy n calls) (calledBy n calls)

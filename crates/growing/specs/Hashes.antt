@@ -20,9 +20,9 @@ digest h = record { bytes = h }
 abbrev pub nothing : Digest
 nothing = digest noHash
 
--- no leaves
-abbrev pub fresh : Growing
-fresh = record { hashes = replicate mostHashes nothing; count = 0 }
+-- no leaves, by the hash that has a number
+abbrev pub fresh : ℕ → Growing
+fresh n = record { algorithm = n; hashes = replicate mostHashes nothing; count = 0 }
 
 -- the hashes that count, that of the largest subtree first
 unfoldable pub counting : List Digest → ℕ → List (List ℕ)
@@ -42,7 +42,7 @@ module _ (H : List ℕ → List ℕ) where
 
   -- a growing tree with one more leaf hash, with more of them, and its root
   unfoldable pub withLeaf : Growing → Digest → Growing
-  withLeaf g x = record { hashes = merged (g .hashes) (g .count) x; count = g .count + 1 }
+  withLeaf g x = record { algorithm = g .algorithm; hashes = merged (g .hashes) (g .count) x; count = g .count + 1 }
 
   unfoldable pub withLeaves : Growing → List (List ℕ) → Growing
   withLeaves g [] = g

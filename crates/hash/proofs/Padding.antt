@@ -11,8 +11,8 @@ use Rattle.octets.specs.Bytes.{put, putWithin}
 use Rattle.octets.specs.Numbers.{be}
 use Rattle.octets.proofs.Numbers.{be-length}
 use Rattle.octets.proofs.Putting.{put-length, put-then, set-put, put-in, pasted}
-use Rattle.sha256.specs.declared.State.{State}
-use Rattle.sha256.specs.Words.{wordFrom}
+use Rattle.words.specs.declared.State.{State}
+use Rattle.words.specs.Words.{wordFrom}
 use Rattle.hash.specs.Message.{zeros, ending, padded, absorbed, hashValue, stateBytes}
 
 -- ---- a hash value's bytes

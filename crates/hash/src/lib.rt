@@ -1,13 +1,16 @@
-// SHA-256 of a message (FIPS 180-4), over the block step of the crate sha256, and the hashes of a leaf and of a node (RFC 9162, section 2.1.1). The
-// layers above see its contracts, and that a digest has 32 bytes.
+// SHA-256 (FIPS 180-4) and SM3 (GB/T 32905-2016) of a message, over the block steps of the crates sha256 and sm3, and the hashes of a leaf and of a node
+// (RFC 9162, section 2.1.1). What the layers call among themselves takes an `Algorithm`, which cannot be unknown; the entries, in by_number, take a
+// number. The layers above see the contracts, and that a digest has 32 bytes.
+pub mod by_number; // the entries: any number, and 16 for one that no hash has
 mod message;
 
 ghost use mathlib.Core.Path.{_≡_};
 ghost use mathlib.Core.List.{[], _++_};
 ghost use Prim.Native.Nat.{_≤_, _<_};
 ghost use lib.ListN.{length};
-ghost use Rattle.hash.specs.Digest.{sha256, leafHash, nodeHash};
-ghost use Rattle.hash.specs.Claims.{Has32, AreBytes};
+ghost use Rattle.hash.specs.Algorithm.{algorithmOf, heldBy};
+ghost use Rattle.hash.specs.Digest.{hashOf, leafHash, nodeHash};
+ghost use Rattle.hash.specs.Claims.{Has32, AreBytes, Numbers, Held, AnsweredBoth};
 ghost use Rattle.hash.specs.Answers.{mostInput, valueNumber, valueBytes, intoNumber, intoBytes};
 ghost use Rattle.octets.specs.Limits.{mostItem};
 use message::bytes_of;
@@ -18,6 +21,41 @@ use octets::limits::MOST_ITEM;
 
 // The longest input of a digest: an item with one byte before it.
 const MOST_INPUT: usize = MOST_ITEM + 1;
+
+// The two hashes.
+pub enum Algorithm {
+    Sha256,
+    Sm3,
+}
+
+// What a number names.
+pub enum Named {
+    By(Algorithm),
+    Unknown,
+}
+
+// The hash that has a number: 0x00 is SHA-256, 0xF0 is SM3. The whole number counts, and not its low byte.
+pub fn algorithm_of(number: u64) -> Named
+    ensures { λ r. ⌜ r ≡ algorithmOf number ⌝ }
+{
+    if number == 0x00 {
+        return Named::By(Algorithm::Sha256);
+    }
+    if number == 0xf0 {
+        return Named::By(Algorithm::Sm3);
+    }
+    Named::Unknown
+}
+
+// The same where a number is held already: another one is none.
+pub fn algorithm_held(number: u64, held: u64) -> Named
+    ensures { λ r. ⌜ r ≡ heldBy held number ⌝ }
+{
+    if number != held {
+        return Named::Unknown;
+    }
+    algorithm_of(number)
+}
 
 // A hash value as bytes.
 pub struct Digest {
@@ -31,10 +69,10 @@ pub struct Hashed {
 }
 
 // The digest of head and then m, by value.
-fn value(most: usize, head: &[u8], m: &[u8]) -> Hashed
+fn value(alg: Algorithm, most: usize, head: &[u8], m: &[u8]) -> Hashed
     requires { ⌜ (most ≤ mostInput) × (length (now head) < 64) ⌝ }
     ensures { λ r. ⌜ r .number ≡ valueNumber most (now (m .entry)) ⌝ }
-    ensures { λ r. ⌜ r .digest .bytes ≡ valueBytes most (now (m .entry)) (sha256 (now (head .entry) ++ now (m .entry))) ⌝ }
+    ensures { λ r. ⌜ r .digest .bytes ≡ valueBytes most (now (m .entry)) (hashOf alg (now (head .entry) ++ now (m .entry))) ⌝ }
 {
     if most < m.len() {
         return Hashed {
@@ -45,16 +83,16 @@ fn value(most: usize, head: &[u8], m: &[u8]) -> Hashed
     Hashed {
         number: 0,
         digest: Digest {
-            bytes: bytes_of(hash_of(head, m)),
+            bytes: bytes_of(hash_of(alg, head, m)),
         },
     }
 }
 
 // The digest of head and then the input, into a buffer.
-fn into(most: usize, head: &[u8], input: &[u8], out: &mut [u8]) -> u32
+fn into(alg: Algorithm, most: usize, head: &[u8], input: &[u8], out: &mut [u8]) -> u32
     requires { ⌜ (most ≤ mostInput) × (length (now head) < 64) ⌝ }
     ensures { λ r. ⌜ r ≡ intoNumber most (now (input .entry)) (now (out .entry)) ⌝ }
-    ensures { λ _. ⌜ now (out .exit) ≡ intoBytes most (now (input .entry)) (sha256 (now (head .entry) ++ now (input .entry))) (now (out .entry)) ⌝ }
+    ensures { λ _. ⌜ now (out .exit) ≡ intoBytes most (now (input .entry)) (hashOf alg (now (head .entry) ++ now (input .entry))) (now (out .entry)) ⌝ }
 {
     if most < input.len() {
         return 1;
@@ -62,64 +100,67 @@ fn into(most: usize, head: &[u8], input: &[u8], out: &mut [u8]) -> u32
     if out.len() < 32 {
         return 9;
     }
-    put_state(out, hash_of(head, input));
+    put_state(out, hash_of(alg, head, input));
     0
 }
 
 // The digest of the input. 1: the input is too long.
-pub fn digest_of(input: &[u8]) -> Hashed
+pub fn digest_of(alg: Algorithm, input: &[u8]) -> Hashed
     ensures { λ r. ⌜ r .number ≡ valueNumber mostInput (now (input .entry)) ⌝ }
-    ensures { λ r. ⌜ r .digest .bytes ≡ valueBytes mostInput (now (input .entry)) (sha256 (now (input .entry))) ⌝ }
+    ensures { λ r. ⌜ r .digest .bytes ≡ valueBytes mostInput (now (input .entry)) (hashOf alg (now (input .entry))) ⌝ }
 {
-    value(MOST_INPUT, b"", input)
+    value(alg, MOST_INPUT, b"", input)
 }
 
 // The leaf hash of an item. 1: the item is too long.
-pub fn leaf(item: &[u8]) -> Hashed
+pub fn leaf(alg: Algorithm, item: &[u8]) -> Hashed
     ensures { λ r. ⌜ r .number ≡ valueNumber mostItem (now (item .entry)) ⌝ }
-    ensures { λ r. ⌜ r .digest .bytes ≡ valueBytes mostItem (now (item .entry)) (leafHash (now (item .entry))) ⌝ }
+    ensures { λ r. ⌜ r .digest .bytes ≡ valueBytes mostItem (now (item .entry)) (leafHash alg (now (item .entry))) ⌝ }
 {
-    value(MOST_ITEM, b"\x00", item)
+    value(alg, MOST_ITEM, b"\x00", item)
 }
 
 // The hash of a node over its two parts.
-pub fn node(left: Digest, right: Digest) -> Digest
-    ensures { λ r. ⌜ r .bytes ≡ nodeHash (left .bytes) (right .bytes) ⌝ }
+pub fn node(alg: Algorithm, left: Digest, right: Digest) -> Digest
+    ensures { λ r. ⌜ r .bytes ≡ nodeHash alg (left .bytes) (right .bytes) ⌝ }
 {
     let l = left.bytes;
     let r = right.bytes;
     Digest {
-        bytes: bytes_of(node_of(&l, &r)),
+        bytes: bytes_of(node_of(alg, &l, &r)),
     }
 }
 
 // The digest of the empty string: the root of a tree with no leaves.
-pub fn empty() -> Digest
-    ensures { λ r. ⌜ r .bytes ≡ sha256 [] ⌝ }
+pub fn empty(alg: Algorithm) -> Digest
+    ensures { λ r. ⌜ r .bytes ≡ hashOf alg [] ⌝ }
 {
     Digest {
-        bytes: bytes_of(hash_of(b"", b"")),
+        bytes: bytes_of(hash_of(alg, b"", b"")),
     }
 }
 
 // The digest of the input into the first 32 bytes of out; 0, or why not. 1: the input is too long. 9: out is too short.
-pub fn digest_into(input: &[u8], out: &mut [u8]) -> u32
+pub fn digest_into(alg: Algorithm, input: &[u8], out: &mut [u8]) -> u32
     ensures { λ r. ⌜ r ≡ intoNumber mostInput (now (input .entry)) (now (out .entry)) ⌝ }
-    ensures { λ _. ⌜ now (out .exit) ≡ intoBytes mostInput (now (input .entry)) (sha256 (now (input .entry))) (now (out .entry)) ⌝ }
+    ensures { λ _. ⌜ now (out .exit) ≡ intoBytes mostInput (now (input .entry)) (hashOf alg (now (input .entry))) (now (out .entry)) ⌝ }
 {
-    into(MOST_INPUT, b"", input, out)
+    into(alg, MOST_INPUT, b"", input, out)
 }
 
 // The leaf hash of an item into the first 32 bytes of out; 0, or why not. 1: the item is too long. 9: out is too short.
-pub fn leaf_into(item: &[u8], out: &mut [u8]) -> u32
+pub fn leaf_into(alg: Algorithm, item: &[u8], out: &mut [u8]) -> u32
     ensures { λ r. ⌜ r ≡ intoNumber mostItem (now (item .entry)) (now (out .entry)) ⌝ }
-    ensures { λ _. ⌜ now (out .exit) ≡ intoBytes mostItem (now (item .entry)) (leafHash (now (item .entry))) (now (out .entry)) ⌝ }
+    ensures { λ _. ⌜ now (out .exit) ≡ intoBytes mostItem (now (item .entry)) (leafHash alg (now (item .entry))) (now (out .entry)) ⌝ }
 {
-    into(MOST_ITEM, b"\x00", item, out)
+    into(alg, MOST_ITEM, b"\x00", item, out)
 }
 
-// What the layers above may use of SHA-256 beside the contracts. It does nothing.
+// What the layers above may use of the hashes beside the contracts, and which numbers they have. It does nothing.
 pub fn claims()
     ensures has_32 { λ _. ⌜ Has32 ⌝ }
     ensures are_bytes { λ _. ⌜ AreBytes ⌝ }
+    ensures numbers { λ _. ⌜ Numbers ⌝ }
+    ensures held { λ _. ⌜ Held ⌝ }
+    ensures answered { λ _. ⌜ AnsweredBoth ⌝ }
 {}

@@ -1,4 +1,4 @@
-// A message, padded and taken in block by block (FIPS 180-4, sections 5.1.1 and 6.2). Whole blocks are read where they lie; what is left at the end
+// A message, padded and taken in block by block (FIPS 180-4, sections 5.1.1 and 6.2), by the block step of either hash. Whole blocks are read where they lie; what is left at the end
 // goes with the padding into one array of two blocks.
 ghost use mathlib.Core.Path.{_≡_};
 ghost use mathlib.Core.List.{_++_, _∷_};
@@ -6,14 +6,13 @@ ghost use Prim.Native.Nat.{_+_, _-_, _*_, _/_, _%_, _^_, _<_, _≤_};
 ghost use lib.ListN.{length, take, drop, replicate};
 ghost use Rattle.octets.specs.Bytes.{put as putBytes};
 ghost use Rattle.octets.specs.Numbers.{be};
-ghost use Rattle.sha256.specs.Words.{wordFrom};
-ghost use Rattle.sha256.specs.Sha256.{compress as compressOf, initial as initialOf};
+ghost use Rattle.words.specs.Words.{wordFrom};
+ghost use Rattle.hash.specs.Algorithm.{startOf, stepOf, wordsOf};
 ghost use Rattle.hash.specs.Message.{ending, absorbed, hashValue, stateBytes};
+use super::Algorithm;
 use octets::be8;
 use octets::put;
-use sha256::State;
-use sha256::initial;
-use sha256::step_at;
+use words::State;
 
 // Head and then rest, at the start of an array of zeros.
 fn join(head: &[u8], rest: &[u8], a: &mut [u8])
@@ -41,76 +40,105 @@ fn pack(head: &[u8], rest: &[u8], n: u64, end: usize, a: &mut [u8])
     put(a, end - 8, &b);
 }
 
-// The hash value after the block that starts at byte p of m.
-fn compress(s: State, m: &[u8], p: usize, w: &mut [u32]) -> State
-    requires { ⌜ (p + 64 ≤ length (now m)) × (length (now w) ≡ 64) ⌝ }
-    ensures { λ r. ⌜ r ≡ compressOf s (wordFrom (now (m .entry)) p) ⌝ }
+// The first hash value.
+fn initial(alg: Algorithm) -> State
+    ensures { λ r. ⌜ r ≡ startOf alg ⌝ }
 {
-    step_at(s, m, p, w)
+    match alg {
+        Algorithm::Sha256 => sha256::initial(),
+        Algorithm::Sm3 => sm3::initial(),
+    }
+}
+
+// The hash value after the block that starts at byte p of m.
+fn compress(alg: Algorithm, s: State, m: &[u8], p: usize, w: &mut [u32]) -> State
+    requires { ⌜ (p + 64 ≤ length (now m)) × (length (now w) ≡ wordsOf alg) ⌝ }
+    ensures { λ r. ⌜ r ≡ stepOf alg s (wordFrom (now (m .entry)) p) ⌝ }
+{
+    match alg {
+        Algorithm::Sha256 => sha256::step_at(s, m, p, w),
+        Algorithm::Sm3 => sm3::step_at(s, m, p, w),
+    }
 }
 
 // The hash value after the last bytes of a message of n bytes, head and then rest, and what follows a message.
-fn finish(s: State, head: &[u8], rest: &[u8], n: u64, w: &mut [u32]) -> State
+fn finish(alg: Algorithm, s: State, head: &[u8], rest: &[u8], n: u64, w: &mut [u32]) -> State
     requires { ⌜
         (length (now head) + length (now rest) < 120)
         × (n < 2 ^ 60)
         × (n % 64 ≡ (length (now head) + length (now rest)) % 64)
-        × (length (now w) ≡ 64) ⌝ }
+        × (length (now w) ≡ wordsOf alg) ⌝ }
     ensures { λ r. ⌜
         r
-        ≡ absorbed compressOf s ((now (head .entry) ++ now (rest .entry)) ++ ending n)
+        ≡ absorbed (stepOf alg) s ((now (head .entry) ++ now (rest .entry)) ++ ending n)
         ((length (now (head .entry)) + length (now (rest .entry)) + 72) / 64) ⌝ }
 {
     let end = (head.len() + rest.len() + 72) / 64 * 64;
     let mut a = [0u8; 128];
     pack(head, rest, n, end, &mut a);
-    let t = compress(s, &a, 0, w);
+    let t = compress(alg, s, &a, 0, w);
     if end <= 64 {
         return t;
     }
-    compress(t, &a, 64, w)
+    compress(alg, t, &a, 64, w)
 }
 
 // The hash value after a first block: head, and the first p bytes of m.
-fn first(head: &[u8], m: &[u8], p: usize, w: &mut [u32]) -> State
-    requires { ⌜ (length (now head) + p ≡ 64) × (p ≤ length (now m)) × (length (now w) ≡ 64) ⌝ }
-    ensures { λ r. ⌜ r ≡ absorbed compressOf initialOf (now (head .entry) ++ now (m .entry)) 1 ⌝ }
+fn first(alg: Algorithm, head: &[u8], m: &[u8], p: usize, w: &mut [u32]) -> State
+    requires { ⌜ (length (now head) + p ≡ 64) × (p ≤ length (now m)) × (length (now w) ≡ wordsOf alg) ⌝ }
+    ensures { λ r. ⌜ r ≡ absorbed (stepOf alg) (startOf alg) (now (head .entry) ++ now (m .entry)) 1 ⌝ }
 {
     let mut a = [0u8; 64];
     join(head, &m[..p], &mut a);
-    compress(initial(), &a, 0, w)
+    compress(alg, initial(alg), &a, 0, w)
 }
 
 // The hash value after a message of more than one block, head and then m.
-fn long(head: &[u8], m: &[u8], w: &mut [u32]) -> State
+fn long(alg: Algorithm, head: &[u8], m: &[u8], w: &mut [u32]) -> State
     requires { ⌜
         (length (now head) < 64)
         × (64 ≤ length (now head) + length (now m))
         × (length (now head) + length (now m) < 2 ^ 60)
-        × (length (now w) ≡ 64) ⌝ }
-    ensures { λ r. ⌜ r ≡ hashValue compressOf initialOf (now (head .entry) ++ now (m .entry)) ⌝ }
+        × (length (now w) ≡ wordsOf alg) ⌝ }
+    ensures { λ r. ⌜ r ≡ hashValue (stepOf alg) (startOf alg) (now (head .entry) ++ now (m .entry)) ⌝ }
 {
     let n = head.len() + m.len();
     let mut p = 64 - head.len();
-    let mut v = first(head, m, p, w);
+    let mut v = first(alg, head, m, p, w);
     while 64 <= m.len() - p {
-        v = compress(v, m, p, w);
+        v = compress(alg, v, m, p, w);
         p += 64;
     }
-    finish(v, b"", &m[p..], n as u64, w)
+    finish(alg, v, b"", &m[p..], n as u64, w)
+}
+
+// The hash value after a message, head and then m, in a lent schedule.
+fn message(alg: Algorithm, head: &[u8], m: &[u8], w: &mut [u32]) -> State
+    requires { ⌜ (length (now head) < 64) × (length (now head) + length (now m) < 2 ^ 60) × (length (now w) ≡ wordsOf alg) ⌝ }
+    ensures { λ r. ⌜ r ≡ hashValue (stepOf alg) (startOf alg) (now (head .entry) ++ now (m .entry)) ⌝ }
+{
+    let n = head.len() + m.len();
+    if n < 120 {
+        return finish(alg, initial(alg), head, m, n as u64, w);
+    }
+    long(alg, head, m, w)
 }
 
 // The hash value after a message, head and then m.
-pub(crate) fn hash_of(head: &[u8], m: &[u8]) -> State
+pub(crate) fn hash_of(alg: Algorithm, head: &[u8], m: &[u8]) -> State
     requires { ⌜ (length (now head) < 64) × (length (now head) + length (now m) < 2 ^ 60) ⌝ }
-    ensures { λ r. ⌜ r ≡ hashValue compressOf initialOf (now (head .entry) ++ now (m .entry)) ⌝ }
+    ensures { λ r. ⌜ r ≡ hashValue (stepOf alg) (startOf alg) (now (head .entry) ++ now (m .entry)) ⌝ }
 {
-    let mut w = [0u32; 64];
-    let n = head.len() + m.len();
-    if n < 120 {
-        return finish(initial(), head, m, n as u64, &mut w);
+    match alg {
+        Algorithm::Sha256 => {
+            let mut w = [0u32; 64];
+            message(alg, head, m, &mut w)
+        }
+        Algorithm::Sm3 => {
+            let mut w = [0u32; 132];
+            message(alg, head, m, &mut w)
+        }
     }
-    long(head, m, &mut w)
 }
 
 // 0x01, left and right, and what follows a message of 65 bytes, in two blocks of zeros. Every length is known, so that each copy is a few moves.
@@ -126,15 +154,31 @@ fn pack_node(left: &[u8; 32], right: &[u8; 32], a: &mut [u8])
     put(a, 120, &b);
 }
 
-// The hash value after 0x01, left and right (RFC 9162, section 2.1.1).
-pub(crate) fn node_of(left: &[u8; 32], right: &[u8; 32]) -> State
-    ensures { λ r. ⌜ r ≡ hashValue compressOf initialOf (1 ∷ (now (left .entry) ++ now (right .entry))) ⌝ }
+// The hash value after 0x01, left and right (RFC 9162, section 2.1.1), in a lent schedule.
+fn node_in(alg: Algorithm, left: &[u8; 32], right: &[u8; 32], w: &mut [u32]) -> State
+    requires { ⌜ length (now w) ≡ wordsOf alg ⌝ }
+    ensures { λ r. ⌜ r ≡ hashValue (stepOf alg) (startOf alg) (1 ∷ (now (left .entry) ++ now (right .entry))) ⌝ }
 {
-    let mut w = [0u32; 64];
     let mut a = [0u8; 128];
     pack_node(left, right, &mut a);
-    let t = compress(initial(), &a, 0, &mut w);
-    compress(t, &a, 64, &mut w)
+    let t = compress(alg, initial(alg), &a, 0, w);
+    compress(alg, t, &a, 64, w)
+}
+
+// The same in a schedule of its own.
+pub(crate) fn node_of(alg: Algorithm, left: &[u8; 32], right: &[u8; 32]) -> State
+    ensures { λ r. ⌜ r ≡ hashValue (stepOf alg) (startOf alg) (1 ∷ (now (left .entry) ++ now (right .entry))) ⌝ }
+{
+    match alg {
+        Algorithm::Sha256 => {
+            let mut w = [0u32; 64];
+            node_in(alg, left, right, &mut w)
+        }
+        Algorithm::Sm3 => {
+            let mut w = [0u32; 132];
+            node_in(alg, left, right, &mut w)
+        }
+    }
 }
 
 // The four bytes of a word. Here and not a call of `octets`: there are eight of them for each hash.

@@ -4,21 +4,20 @@ use mathlib.Core.List.{List, [], _∷_, _++_}
 use Prim.Native.Nat.{ℕ}
 use lib.Dec.{eqb, ltb}
 use lib.ListN.{length, drop, getD}
-use Rattle.sha256.specs.declared.State.{State}
-use Rattle.sha256.specs.Words.{wordFrom}
-use Rattle.sha256.specs.Sha256.{compress, schedule}
-use Rattle.sha256.specs.Answers.{stepNumber}
-use Rattle.hash.specs.Digest.{nodeHash}
+use Rattle.words.specs.declared.State.{State}
+use Rattle.words.specs.Words.{wordFrom}
+use Rattle.words.specs.Answers.{Compression, Scheduling, stepNumber}
 
--- ---- a node hash: 5 where a part is not 32 bytes, 9 where out has fewer than 32
+-- ---- a node hash by the hash H: 5 where a part is not 32 bytes, 9 where out has fewer than 32
 
 unfoldable pub nodeNumber : List ℕ → List ℕ → List ℕ → ℕ
 nodeNumber l r out = cond (eqb (length l) 32) (cond (eqb (length r) 32) (cond (ltb (length out) 32) 9 0) 5) 5
 
-unfoldable pub nodeBytes : List ℕ → List ℕ → List ℕ → List ℕ
-nodeBytes l r out = cond (eqb (nodeNumber l r out) 0) (nodeHash l r ++ drop 32 out) out
+unfoldable pub nodeBytes : (List ℕ → List ℕ) → List ℕ → List ℕ → List ℕ → List ℕ
+nodeBytes H l r out = cond (eqb (nodeNumber l r out) 0) (H (1 ∷ (l ++ r)) ++ drop 32 out) out
 
--- ---- the block step on a hash value of eight words in memory: the block step's own refusals, then 9 where it is not eight words
+-- ---- a block step on a hash value of eight words in memory: the block step's own refusals, then 9 where it is not eight words. n is how many words
+-- the schedule has, `C` the compression function, `S` the schedule of a block.
 
 abbrev pub stateOf : List ℕ → State
 stateOf l =
@@ -36,11 +35,11 @@ stateOf l =
 abbrev pub wordsOf : State → List ℕ
 wordsOf s = s .a ∷ s .b ∷ s .c ∷ s .d ∷ s .e ∷ s .f ∷ s .g ∷ s .h ∷ []
 
-unfoldable pub wordsNumber : List ℕ → List ℕ → List ℕ → ℕ
-wordsNumber l m w = cond (eqb (stepNumber m w) 0) (cond (eqb (length l) 8) 0 9) (stepNumber m w)
+unfoldable pub wordsNumber : ℕ → List ℕ → List ℕ → List ℕ → ℕ
+wordsNumber n l m w = cond (eqb (stepNumber n m w) 0) (cond (eqb (length l) 8) 0 9) (stepNumber n m w)
 
-unfoldable pub wordsAfter : List ℕ → List ℕ → List ℕ → List ℕ
-wordsAfter l m w = cond (eqb (wordsNumber l m w) 0) (wordsOf (compress (stateOf l) (wordFrom m 0))) l
+unfoldable pub wordsAfter : ℕ → Compression → List ℕ → List ℕ → List ℕ → List ℕ
+wordsAfter n C l m w = cond (eqb (wordsNumber n l m w) 0) (wordsOf (C (stateOf l) (wordFrom m 0))) l
 
-unfoldable pub wordsSchedule : List ℕ → List ℕ → List ℕ → List ℕ
-wordsSchedule l m w = cond (eqb (wordsNumber l m w) 0) (schedule (wordFrom m 0) 64) w
+unfoldable pub wordsSchedule : ℕ → Scheduling → List ℕ → List ℕ → List ℕ → List ℕ
+wordsSchedule n S l m w = cond (eqb (wordsNumber n l m w) 0) (S (wordFrom m 0)) w

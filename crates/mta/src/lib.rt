@@ -1,58 +1,76 @@
 // What a program in C calls (include/mta.h), on numbers and byte slices: both verdicts, carrying and comparing, the root of leaf hashes, the readers of items
-// and of the first edition, the writer of a consistency item, the hashes and the block step. 0 means accepted or done, any other answer is a refusal's number.
+// and of the first edition, the writer of a consistency item, the hashes and the block steps. 0 means accepted or done, any other answer is a refusal's
+// number. What hashes takes the hash's number first: 0x00 is SHA-256, 0xF0 is SM3; any other is 16, before all else.
 ghost use mathlib.Core.Path.{_≡_};
+ghost use mathlib.Core.List.{_∷_};
 ghost use lib.ListN.{length};
-ghost use Rattle.hash.specs.Digest.{sha256, leafHash};
+ghost use Rattle.hash.specs.Digest.{hashOf, byNumber};
 ghost use Rattle.octets.specs.Limits.{mostItem};
 ghost use Rattle.hash.specs.Answers.{mostInput, intoNumber, intoBytes};
 ghost use Rattle.tree.specs.Verdict.{inclusionVerdict, consistencyVerdict};
 ghost use Rattle.octets.specs.Answer.{number};
-ghost use Rattle.tree.specs.Build.{building, buildReport, output, rootBuilt};
+ghost use Rattle.tree.specs.Build.{building, buildReport, output, refused as notBuilt, rootBuilt};
 ghost use Rattle.fields.specs.Effect.{writing};
 ghost use Rattle.item.specs.Item.{reading, readItem};
 ghost use Rattle.first.specs.First.{reading as readingFirst, readFirst};
-ghost use Rattle.carry.specs.Forward.{carry, pathCarried, pairCarried, carryReport};
-ghost use Rattle.carry.specs.Compare.{compare, compareReport, pairCompared};
+ghost use Rattle.carry.specs.Forward.{carry, refused as notCarried, pathCarried, pairCarried, carryReport};
+ghost use Rattle.carry.specs.Compare.{compare, refused as notCompared, compareReport, pairCompared};
 ghost use Rattle.mta.specs.Entries.{writtenAfter, collidedAfter, differedAfter, numberOf, placeOf, lengthAfter, sizesOf, consistencyWritten};
 ghost use Rattle.mta.specs.Judged.{ItemsAreJudged};
-ghost use Rattle.mta.specs.Slices.{nodeNumber, nodeBytes, wordsOf, wordsNumber, wordsAfter, wordsSchedule};
+ghost use Rattle.mta.specs.Slices.{nodeNumber, nodeBytes, stateOf, wordsOf, wordsNumber, wordsAfter, wordsSchedule};
+ghost use Rattle.sha256.specs.Sha256 as sha;
+ghost use Rattle.sm3.specs.Sm3 as sm;
 use carry::compare::Compared;
 use carry::forward::Carried;
 use fields::writing::Written;
 use first::First;
+use hash::Algorithm;
 use hash::Digest;
+use hash::Named;
+use hash::algorithm_of;
+use hash::by_number::UNKNOWN;
 use item::Item;
 use item::Numbers;
-use sha256::State;
-use sha256::Stepped;
 use tree::build::Built;
+use words::State;
 
 // The inclusion verdict (RFC 9162, section 2.1.3).
 #[no_mangle]
-pub extern "C" fn mta_inclusion(leaf: &[u8], place: u64, size: u64, root: &[u8], path: &[u8]) -> u32
-    ensures { λ r. ⌜ r ≡ inclusionVerdict sha256 (now (leaf .entry)) place size (now (root .entry)) (now (path .entry)) ⌝ }
+pub extern "C" fn mta_inclusion(
+    algorithm: u64,
+    leaf: &[u8],
+    place: u64,
+    size: u64,
+    root: &[u8],
+    path: &[u8],
+) -> u32
+    ensures { λ r. ⌜
+        r ≡ byNumber algorithm 16 (λ H. inclusionVerdict H (now (leaf .entry)) place size (now (root .entry)) (now (path .entry))) ⌝ }
 {
-    tree::verdict::inclusion_verdict(leaf, place, size, root, path)
+    tree::by_number::inclusion_verdict(algorithm, leaf, place, size, root, path)
 }
 
 // The consistency verdict (RFC 9162, section 2.1.4).
 #[no_mangle]
 pub extern "C" fn mta_consistency(
+    algorithm: u64,
     first: u64,
     second: u64,
     old: &[u8],
     new: &[u8],
     path: &[u8],
 ) -> u32
-    ensures { λ r. ⌜ r ≡ consistencyVerdict sha256 first second (now (old .entry)) (now (new .entry)) (now (path .entry)) ⌝ }
+    ensures { λ r. ⌜
+        r ≡ byNumber algorithm 16 (λ H. consistencyVerdict H first second (now (old .entry)) (now (new .entry)) (now (path .entry))) ⌝ }
 {
-    tree::verdict::consistency_verdict(first, second, old, new, path)
+    tree::by_number::consistency_verdict(algorithm, first, second, old, new, path)
 }
 
 // Carries an inclusion proof at m leaves to n by a consistency proof: 0, with the new path's length and whether a collision was written instead, or the
 // number of the refusal, which changes nothing.
 #[no_mangle]
 pub extern "C" fn mta_carry(
+    algorithm: u64,
     leaf: &[u8],
     place: u64,
     m: u64,
@@ -67,15 +85,28 @@ pub extern "C" fn mta_carry(
     collided: &mut bool,
 ) -> u32
     ensures { λ r. ⌜
-        (let o = carry sha256 (now (leaf .entry)) place m n (now (old .entry)) (now (new .entry)) (now (path .entry)) (now (proof .entry))
-        (length (now (out .entry))) (length (now (pair .entry))) in
+        (let o = byNumber algorithm (notCarried 16) (λ H.
+        carry H (now (leaf .entry)) place m n (now (old .entry)) (now (new .entry)) (now (path .entry)) (now (proof .entry))
+        (length (now (out .entry))) (length (now (pair .entry)))) in
         (r ≡ number (carryReport o))
         × ((now (out .exit) ≡ pathCarried o (now (out .entry)))
         × ((now (pair .exit) ≡ pairCarried o (now (pair .entry)))
         × ((now (written .exit) ≡ writtenAfter (carryReport o) (now (written .entry)))
         × (now (collided .exit) ≡ collidedAfter (carryReport o) (now (collided .entry))))))) ⌝ }
 {
-    match carry::forward::carry(leaf, place, m, n, old, new, path, proof, out, pair) {
+    match carry::by_number::carry(
+        algorithm,
+        leaf,
+        place,
+        m,
+        n,
+        old,
+        new,
+        path,
+        proof,
+        out,
+        pair,
+    ) {
         Carried::Path(count) => {
             *written = count as u64;
             *collided = false;
@@ -94,6 +125,7 @@ pub extern "C" fn mta_carry(
 // changes nothing.
 #[no_mangle]
 pub extern "C" fn mta_compare(
+    algorithm: u64,
     place: u64,
     size: u64,
     root: &[u8],
@@ -105,13 +137,24 @@ pub extern "C" fn mta_compare(
     collided: &mut bool,
 ) -> u32
     ensures { λ r. ⌜
-        (let o = compare sha256 place size (now (root .entry)) (now (leaf1 .entry)) (now (path1 .entry)) (now (leaf2 .entry)) (now (path2 .entry))
-        (length (now (pair .entry))) in
+        (let o = byNumber algorithm (notCompared 16) (λ H.
+        compare H place size (now (root .entry)) (now (leaf1 .entry)) (now (path1 .entry)) (now (leaf2 .entry)) (now (path2 .entry))
+        (length (now (pair .entry)))) in
         (r ≡ number (compareReport o))
         × ((now (pair .exit) ≡ pairCompared o (now (pair .entry)))
         × (now (collided .exit) ≡ differedAfter (compareReport o) (now (collided .entry))))) ⌝ }
 {
-    match carry::compare::compare(place, size, root, leaf1, path1, leaf2, path2, pair) {
+    match carry::by_number::compare(
+        algorithm,
+        place,
+        size,
+        root,
+        leaf1,
+        path1,
+        leaf2,
+        path2,
+        pair,
+    ) {
         Compared::Same => {
             *collided = false;
             0
@@ -126,12 +169,12 @@ pub extern "C" fn mta_compare(
 
 // The root of joined leaf hashes into the first 32 bytes of out.
 #[no_mangle]
-pub extern "C" fn mta_root(leaves: &[u8], out: &mut [u8]) -> u32
+pub extern "C" fn mta_root(algorithm: u64, leaves: &[u8], out: &mut [u8]) -> u32
     ensures { λ r. ⌜
-        (let o = rootBuilt sha256 (now (leaves .entry)) (length (now (out .entry))) in
+        (let o = byNumber algorithm (notBuilt 16) (λ H. rootBuilt H (now (leaves .entry)) (length (now (out .entry)))) in
         (r ≡ number (buildReport o)) × (now (out .exit) ≡ output o (now (out .entry)))) ⌝ }
 {
-    built(tree::build::root(leaves, out))
+    built(tree::by_number::root(algorithm, leaves, out))
 }
 
 fn built(b: Built) -> u32
@@ -335,20 +378,24 @@ pub extern "C" fn mta_consistency_item<'a>(
 
 // The digest of the input into the first 32 bytes of out.
 #[no_mangle]
-pub extern "C" fn mta_digest(input: &[u8], out: &mut [u8]) -> u32
-    ensures { λ r. ⌜ r ≡ intoNumber mostInput (now (input .entry)) (now (out .entry)) ⌝ }
-    ensures { λ _. ⌜ now (out .exit) ≡ intoBytes mostInput (now (input .entry)) (sha256 (now (input .entry))) (now (out .entry)) ⌝ }
+pub extern "C" fn mta_digest(algorithm: u64, input: &[u8], out: &mut [u8]) -> u32
+    ensures { λ r. ⌜ r ≡ byNumber algorithm 16 (λ _. intoNumber mostInput (now (input .entry)) (now (out .entry))) ⌝ }
+    ensures { λ _. ⌜
+        now (out .exit)
+        ≡ byNumber algorithm (now (out .entry)) (λ H. intoBytes mostInput (now (input .entry)) (H (now (input .entry))) (now (out .entry))) ⌝ }
 {
-    hash::digest_into(input, out)
+    hash::by_number::digest_into(algorithm, input, out)
 }
 
 // The leaf hash of an item into the first 32 bytes of out.
 #[no_mangle]
-pub extern "C" fn mta_leaf(item: &[u8], out: &mut [u8]) -> u32
-    ensures { λ r. ⌜ r ≡ intoNumber mostItem (now (item .entry)) (now (out .entry)) ⌝ }
-    ensures { λ _. ⌜ now (out .exit) ≡ intoBytes mostItem (now (item .entry)) (leafHash (now (item .entry))) (now (out .entry)) ⌝ }
+pub extern "C" fn mta_leaf(algorithm: u64, item: &[u8], out: &mut [u8]) -> u32
+    ensures { λ r. ⌜ r ≡ byNumber algorithm 16 (λ _. intoNumber mostItem (now (item .entry)) (now (out .entry))) ⌝ }
+    ensures { λ _. ⌜
+        now (out .exit)
+        ≡ byNumber algorithm (now (out .entry)) (λ H. intoBytes mostItem (now (item .entry)) (H (0 ∷ now (item .entry))) (now (out .entry))) ⌝ }
 {
-    hash::leaf_into(item, out)
+    hash::by_number::leaf_into(algorithm, item, out)
 }
 
 fn digest_from(s: &[u8]) -> Digest
@@ -360,11 +407,10 @@ fn digest_from(s: &[u8]) -> Digest
     Digest { bytes: b }
 }
 
-// The hash of a node over two hashes into the first 32 bytes of out. 5: a hash is not 32 bytes. 9: out is too short.
-#[no_mangle]
-pub extern "C" fn mta_node(left: &[u8], right: &[u8], out: &mut [u8]) -> u32
+// The hash of a node over two hashes into the first 32 bytes of out, by a hash that is known. 5: a part is not 32 bytes. 9: out is too short.
+fn node_into(alg: Algorithm, left: &[u8], right: &[u8], out: &mut [u8]) -> u32
     ensures { λ r. ⌜ r ≡ nodeNumber (now (left .entry)) (now (right .entry)) (now (out .entry)) ⌝ }
-    ensures { λ _. ⌜ now (out .exit) ≡ nodeBytes (now (left .entry)) (now (right .entry)) (now (out .entry)) ⌝ }
+    ensures { λ _. ⌜ now (out .exit) ≡ nodeBytes (hashOf alg) (now (left .entry)) (now (right .entry)) (now (out .entry)) ⌝ }
 {
     if left.len() != 32 {
         return 5;
@@ -375,10 +421,57 @@ pub extern "C" fn mta_node(left: &[u8], right: &[u8], out: &mut [u8]) -> u32
     if out.len() < 32 {
         return 9;
     }
-    let d = hash::node(digest_from(left), digest_from(right));
+    let d = hash::node(alg, digest_from(left), digest_from(right));
     let b = d.bytes;
     octets::put(out, 0, &b);
     0
+}
+
+// The hash of a node over two hashes into the first 32 bytes of out. 16, 5, 9.
+#[no_mangle]
+pub extern "C" fn mta_node(algorithm: u64, left: &[u8], right: &[u8], out: &mut [u8]) -> u32
+    ensures { λ r. ⌜ r ≡ byNumber algorithm 16 (λ _. nodeNumber (now (left .entry)) (now (right .entry)) (now (out .entry))) ⌝ }
+    ensures { λ _. ⌜
+        now (out .exit)
+        ≡ byNumber algorithm (now (out .entry)) (λ H. nodeBytes H (now (left .entry)) (now (right .entry)) (now (out .entry))) ⌝ }
+{
+    let named = algorithm_of(algorithm);
+    match named {
+        Named::By(alg) => node_into(alg, left, right, out),
+        Named::Unknown => UNKNOWN,
+    }
+}
+
+// Why a block step with a schedule of n words is refused, or 0. 5: the block is not 64 bytes. 9: w is not n words, or the state not eight.
+fn unfit(n: usize, state: &[u32], block: &[u8], w: &[u32]) -> u32
+    ensures { λ r. ⌜ r ≡ wordsNumber n (now (state .entry)) (now (block .entry)) (now (w .entry)) ⌝ }
+{
+    if block.len() != 64 {
+        return 5;
+    }
+    if w.len() != n {
+        return 9;
+    }
+    if state.len() != 8 {
+        return 9;
+    }
+    0
+}
+
+fn words_in(l: &[u32]) -> State
+    requires { ⌜ length (now l) ≡ 8 ⌝ }
+    ensures { λ r. ⌜ r ≡ stateOf (now (l .entry)) ⌝ }
+{
+    State {
+        a: l[0],
+        b: l[1],
+        c: l[2],
+        d: l[3],
+        e: l[4],
+        f: l[5],
+        g: l[6],
+        h: l[7],
+    }
 }
 
 fn put_words(s: State, l: &mut [u32])
@@ -395,37 +488,35 @@ fn put_words(s: State, l: &mut [u32])
     l[7] = s.h;
 }
 
-// The block step on the eight words of state, with the block's schedule left in w. 5: the block is not 64 bytes. 9: w is not 64 words, or the
-// state not eight.
+// SHA-256's block step on the eight words of state, with the block's 64 words left in w. 5, 9.
 #[no_mangle]
 pub extern "C" fn mta_step(state: &mut [u32], block: &[u8], w: &mut [u32]) -> u32
-    ensures { λ r. ⌜ r ≡ wordsNumber (now (state .entry)) (now (block .entry)) (now (w .entry)) ⌝ }
-    ensures { λ _. ⌜ now (state .exit) ≡ wordsAfter (now (state .entry)) (now (block .entry)) (now (w .entry)) ⌝ }
-    ensures { λ _. ⌜ now (w .exit) ≡ wordsSchedule (now (state .entry)) (now (block .entry)) (now (w .entry)) ⌝ }
+    ensures { λ r. ⌜ r ≡ wordsNumber 64 (now (state .entry)) (now (block .entry)) (now (w .entry)) ⌝ }
+    ensures { λ _. ⌜ now (state .exit) ≡ wordsAfter 64 sha.compress (now (state .entry)) (now (block .entry)) (now (w .entry)) ⌝ }
+    ensures { λ _. ⌜ now (w .exit) ≡ wordsSchedule 64 sha.schedule (now (state .entry)) (now (block .entry)) (now (w .entry)) ⌝ }
 {
-    if block.len() != 64 {
-        return 5;
+    let number = unfit(64, state, block, w);
+    if number != 0 {
+        return number;
     }
-    if w.len() != 64 {
-        return 9;
+    let s = words_in(state);
+    put_words(sha256::step_at(s, block, 0, w), state);
+    0
+}
+
+// SM3's block step, with the block's 132 words left in w. 5, 9.
+#[no_mangle]
+pub extern "C" fn mta_sm3_step(state: &mut [u32], block: &[u8], w: &mut [u32]) -> u32
+    ensures { λ r. ⌜ r ≡ wordsNumber 132 (now (state .entry)) (now (block .entry)) (now (w .entry)) ⌝ }
+    ensures { λ _. ⌜ now (state .exit) ≡ wordsAfter 132 sm.compress (now (state .entry)) (now (block .entry)) (now (w .entry)) ⌝ }
+    ensures { λ _. ⌜ now (w .exit) ≡ wordsSchedule 132 sm.schedule (now (state .entry)) (now (block .entry)) (now (w .entry)) ⌝ }
+{
+    let number = unfit(132, state, block, w);
+    if number != 0 {
+        return number;
     }
-    if state.len() != 8 {
-        return 9;
-    }
-    let s = State {
-        a: state[0],
-        b: state[1],
-        c: state[2],
-        d: state[3],
-        e: state[4],
-        f: state[5],
-        g: state[6],
-        h: state[7],
-    };
-    match sha256::step(s, block, w) {
-        Stepped::Done(r) => put_words(r, state),
-        Stepped::Refused(n) => return n,
-    }
+    let s = words_in(state);
+    put_words(sm3::step_at(s, block, 0, w), state);
     0
 }
 

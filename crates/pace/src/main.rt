@@ -1,11 +1,16 @@
 // Does the work whose time reference/bench measures, since the library for C has no growing tree. Each byte of standard input names a job over the same
-// 65,536 leaf hashes. Its answer is 32 bytes that depend on all of the work; zeros, where a call is refused. Any other byte ends the program.
+// 65,536 leaf hashes, by SHA-256. Its answer is 32 bytes that depend on all of the work; zeros, where a call is refused. Any other byte ends the program.
+use growing::Growing;
 use growing::add::add_leaves;
+use hash::Algorithm;
 use hash::Digest;
 use libc::STDIN_FILENO;
 use libc::STDOUT_FILENO;
 
 const BYTES: usize = 2_097_152;
+
+// The number of SHA-256.
+const SHA256: u64 = 0x00;
 
 // By itself, so that no other proof has the array in its facts.
 fn zeros() -> [u8; BYTES] {
@@ -31,34 +36,42 @@ fn node_hashes(count: usize) -> Digest {
     let mut h = none();
     let mut left = count;
     while 0 < left {
-        h = hash::node(h, none());
+        h = hash::node(Algorithm::Sha256, h, none());
         left -= 1;
     }
     h
 }
 
+// The root of all leaves so far; zeros, where it is refused.
+fn root(g: Growing) -> Digest {
+    let hashed = growing::root(SHA256, g);
+    hashed.digest
+}
+
 // The root of all leaves, added in one call.
 fn at_once(leaves: &[u8]) -> Digest {
-    let grown = add_leaves(growing::new(), leaves);
+    let made = growing::new(SHA256);
+    let grown = add_leaves(SHA256, made.after, leaves);
     if grown.number != 0 {
         return none();
     }
-    growing::root(grown.after)
+    root(grown.after)
 }
 
 // The root of all leaves, added one by one.
 fn one_by_one(leaves: &[u8]) -> Digest {
-    let mut g = growing::new();
+    let made = growing::new(SHA256);
+    let mut g = made.after;
     let mut i = 0;
     while 32 <= leaves.len() - i {
-        let grown = add_leaves(g, &leaves[i..i + 32]);
+        let grown = add_leaves(SHA256, g, &leaves[i..i + 32]);
         if grown.number != 0 {
             return none();
         }
         g = grown.after;
         i += 32;
     }
-    growing::root(g)
+    root(g)
 }
 
 fn xor(a: Digest, b: Digest) -> Digest {
@@ -73,16 +86,17 @@ fn xor(a: Digest, b: Digest) -> Digest {
 
 // The xor of the roots after each leaf: no root can be left out.
 fn all_roots(leaves: &[u8]) -> Digest {
-    let mut g = growing::new();
+    let made = growing::new(SHA256);
+    let mut g = made.after;
     let mut all = none();
     let mut i = 0;
     while 32 <= leaves.len() - i {
-        let grown = add_leaves(g, &leaves[i..i + 32]);
+        let grown = add_leaves(SHA256, g, &leaves[i..i + 32]);
         if grown.number != 0 {
             return none();
         }
         g = grown.after;
-        all = xor(all, growing::root(g));
+        all = xor(all, root(g));
         i += 32;
     }
     all

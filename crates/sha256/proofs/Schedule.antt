@@ -1,48 +1,35 @@
 -- The message schedule and the rounds: section 6.2.2's equations, and how the code comes by them, eight words and eight rounds at a time. Assumes nothing.
 use mathlib.Core.Path.{_≡_, refl, sym, _∙_}
-use mathlib.Core.Logic.{⊎-elim}
-use mathlib.Core.List.{List, []}
-use Prim.Native.Nat.{ℕ, zero, suc, _+_, _-_, _<_}
-use native.Mathlib.Nat.{le-of-suc-le-suc, not-suc-le-zero, eq-or-lt-of-le, add-suc}
+use mathlib.Core.List.{List}
+use Prim.Native.Nat.{ℕ, _+_, _-_, _<_}
+use native.Mathlib.Nat.{add-suc}
 use native.Mathlib.Numerals.{add-one}
 use native.Mathlib.Omega.{arith}
-use lib.ListN.{length, getD, set, length-append, List·getD-append}
-use lib.Seq.{getD-at, getD-set-same, getD-set-other, ext-getD}
+use lib.ListN.{length, getD, set}
+use lib.Seq.{ext-getD}
 use borrow.Author.Tests.{lt-ltb, le-ltb}
-use borrow.Author.Count.{below-more}
-use Rattle.sha256.specs.declared.State.{State}
+use Rattle.words.specs.declared.State.{State}
+use Rattle.words.specs.Known.{Known, course, value}
+use Rattle.words.proofs.Growing.{grow, course-length, course-at}
 use Rattle.sha256.specs.Sha256.{constants, nextWord, wordAfter, schedule, word, rounds, round}
-use Rattle.sha256.specs.Inner.{Known, Scheduled, eightFrom}
-
--- ---- a list whose first elements are known, by one more
-pub grow : (c : List ℕ) (g : ℕ → ℕ) (n v : ℕ) → n < length c → Known c g n → v ≡ g n → Known (set c n v) g (n + 1)
-grow c g n v h k e =
-    below-more (λ (j : ℕ). getD (set c n v) j 0 ≡ g j) n (λ j l. getD-set-other c n j v 0 (λ (q : j ≡ n). omega arith) ∙ k j l) (getD-set-same c n v 0 h ∙ e)
+use Rattle.sha256.specs.Inner.{Scheduled, eightFrom}
 
 -- ---- the schedule as a list, and word by word
 
-schedule-length : (x : ℕ → ℕ) (n : ℕ) → length (schedule x n) ≡ n
+word-at : (x : ℕ → ℕ) (n : ℕ) → Known (course (wordAfter x) n) (word x) n
+unfolding word
+word-at x n = course-at (wordAfter x) n
+
+pub whole : (w : List ℕ) (x : ℕ → ℕ) → length w ≡ 64 → Scheduled w x 64 → w ≡ schedule x
 unfolding schedule
-schedule-length x zero = refl
-schedule-length x (suc n) = let e : length (schedule x n) ≡ n = schedule-length x n in rw length-append (omega arith)
-
-word-at : (x : ℕ → ℕ) (n t : ℕ) → t < n → getD (schedule x n) t 0 ≡ word x t
-unfolding schedule word
-word-at x zero t l = absurd (not-suc-le-zero l)
-word-at x (suc n) t l =
-    ⊎-elim
-    (λ (e : t ≡ n). rw e (getD-at (schedule x n) _ [] 0 n (schedule-length x n)))
-    (λ (k : t < n). List·getD-append (schedule x n) _ 0 t (rw (schedule-length x n) k) ∙ word-at x n t k)
-    (eq-or-lt-of-le (le-of-suc-le-suc l))
-
-pub whole : (w : List ℕ) (x : ℕ → ℕ) → length w ≡ 64 → Scheduled w x 64 → w ≡ schedule x 64
 whole w x l k =
-    ext-getD 0 w (schedule x 64) (l ∙ sym (schedule-length x 64)) (λ i h. let m : i < 64 = omega (arith, l) in k i m m ∙ sym (word-at x 64 i m))
+    let s = course (wordAfter x) 64 in
+    ext-getD 0 w s (l ∙ sym (course-length (wordAfter x) 64)) (λ i h. let m : i < 64 = omega (arith, l) in k i m m ∙ sym (word-at x 64 i m))
 
 -- ---- 6.2.2, step 1, as the document has it
 
 pub word-first : (x : ℕ → ℕ) (t : ℕ) → t < 16 → word x t ≡ x t
-unfolding word wordAfter
+unfolding word value wordAfter
 word-first x t l = rw (lt-ltb _ _ l)
 
 word-late : (x : ℕ → ℕ) (t : ℕ) → 15 < t → (ws : List ℕ)
@@ -50,10 +37,13 @@ word-late : (x : ℕ → ℕ) (t : ℕ) → 15 < t → (ws : List ℕ)
 unfolding wordAfter
 word-late x t l ws = rw (le-ltb _ _ l)
 
+word-is : (x : ℕ → ℕ) (t : ℕ) → word x t ≡ wordAfter x (course (wordAfter x) t) t
+unfolding word value
+word-is x t = refl
+
 pub word-later : (x : ℕ → ℕ) (t : ℕ) → 15 < t → word x t ≡ nextWord (word x (t - 2)) (word x (t - 7)) (word x (t - 15)) (word x (t - 16))
-unfolding word
 word-later x t l =
-    word-late x t l (schedule x t) ∙
+    word-is x t ∙ word-late x t l (course (wordAfter x) t) ∙
     rw (word-at x t (t - 2) (omega arith), word-at x t (t - 7) (omega arith), word-at x t (t - 15) (omega arith), word-at x t (t - 16) (omega arith))
 
 -- the block's own words, and one word more

@@ -3,12 +3,9 @@ use mathlib.Core.Path.{_≡_}
 use mathlib.Core.List.{List}
 use Prim.Native.Nat.{ℕ, _+_, _<_}
 use lib.ListN.{getD}
-use Rattle.sha256.specs.declared.State.{State}
+use Rattle.words.specs.declared.State.{State}
+use Rattle.words.specs.Known.{Known}
 use Rattle.sha256.specs.Sha256.{word, round, rounds}
-
--- the elements of w below n are those of g
-abbrev pub Known : List ℕ → (ℕ → ℕ) → ℕ → Type 0
-Known w g n = (j : ℕ) → j < n → getD w j 0 ≡ g j
 
 -- w has the words below n of the schedule of x, of which there are 64
 abbrev pub Scheduled : List ℕ → (ℕ → ℕ) → ℕ → Type 0

@@ -1,12 +1,13 @@
 -- SHA-256's block step (FIPS 180-4). A block is a function that gives its sixteen words. Assumes nothing.
 use mathlib.Core.Bool.{cond}
-use mathlib.Core.List.{List, [], _∷_, _++_}
+use mathlib.Core.List.{List, [], _∷_}
 use Prim.Native.Nat.{ℕ, zero, suc, _-_}
 use lib.Bits.{bitAnd, bitXor}
 use lib.Dec.{ltb}
 use lib.ListN.{getD}
-use Rattle.sha256.specs.declared.State.{State}
-use Rattle.sha256.specs.Words.{add32, shr, rotr, not32}
+use Rattle.words.specs.declared.State.{State}
+use Rattle.words.specs.Words.{add32, shr, rotr, not32}
+use Rattle.words.specs.Known.{course, value}
 
 -- ---- 4.1.2: the six functions
 
@@ -67,14 +68,12 @@ unfoldable pub wordAfter : (ℕ → ℕ) → List ℕ → ℕ → ℕ
 wordAfter x ws t =
     cond (ltb t 16) (x t) (nextWord (getD ws (t - 2) 0) (getD ws (t - 7) 0) (getD ws (t - 15) 0) (getD ws (t - 16) 0))
 
--- the first n words
-unfoldable pub schedule : (ℕ → ℕ) → ℕ → List ℕ
-schedule x zero = []
-schedule x (suc t) = schedule x t ++ (wordAfter x (schedule x t) t ∷ [])
-
--- Wt
+-- Wt, and W0 to W63
 unfoldable pub word : (ℕ → ℕ) → ℕ → ℕ
-word x t = wordAfter x (schedule x t) t
+word x = value (wordAfter x)
+
+unfoldable pub schedule : (ℕ → ℕ) → List ℕ
+schedule x = course (wordAfter x) 64
 
 -- ---- 6.2.2, steps 2 and 3: a round with its constant and word, and the first n rounds
 

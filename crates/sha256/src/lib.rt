@@ -1,34 +1,19 @@
 // SHA-256's block step and its first hash value (FIPS 180-4, sections 4.1.2, 4.2.2, 5.3.3 and 6.2.2). Padding, digests and the hashes of the tree are
 // the crate hash's.
 ghost use mathlib.Core.Path.{_≡_};
-ghost use mathlib.Core.List.{[], _∷_};
 ghost use Prim.Native.Nat.{_+_, _*_, _%_, _<_, _≤_};
 ghost use lib.ListN.{length};
-ghost use Rattle.octets.specs.Numbers.{unbe};
-ghost use Rattle.sha256.specs.Words.{add32, wordFrom};
+ghost use Rattle.words.specs.Words.{wordFrom};
+ghost use Rattle.words.specs.Answers.{stepping, stepAnswer, stepSchedule, valueAfter, scheduleAfter};
+ghost use Rattle.words.specs.Claims.{BlockIsTaken, BlockAtIsTaken};
 ghost use Rattle.sha256.specs.Sha256.{choose, majority, bigSigma0, bigSigma1, smallSigma0, smallSigma1, constants, nextWord, t1Of, t2Of};
 ghost use Rattle.sha256.specs.Sha256.{round as roundOf, addState, compress as compressOf, schedule, initial as initialOf};
-ghost use Rattle.sha256.specs.Answers.{stepping, stepAnswer, stepSchedule, valueAfter, scheduleAfter};
-ghost use Rattle.sha256.specs.Claims.{BlockIsTaken, BlockAtIsTaken, BySixteenWords, StepLosesNothing};
-ghost use Rattle.sha256.specs.Inner.{eightWith, eightFrom, Known, Longer, Ran};
-
-// A hash value: eight words.
-pub struct State {
-    pub a: u32,
-    pub b: u32,
-    pub c: u32,
-    pub d: u32,
-    pub e: u32,
-    pub f: u32,
-    pub g: u32,
-    pub h: u32,
-}
-
-// What the block step answers.
-pub enum Stepped {
-    Done(State),
-    Refused(u32),
-}
+ghost use Rattle.sha256.specs.Claims.{BySixteenWords, ExampleHashes};
+ghost use Rattle.sha256.specs.Inner.{eightWith, eightFrom, Longer, Ran};
+use words::State;
+use words::Stepped;
+use words::add;
+use words::load;
 
 // K0 to K63: the first 32 bits of the fractional parts of the cube roots of the first 64 primes.
 const K: [u32; 64] = [
@@ -97,12 +82,6 @@ const K: [u32; 64] = [
     0xbef9_a3f7,
     0xc671_78f2,
 ];
-
-fn add(x: u32, y: u32) -> u32
-    ensures { λ r. ⌜ r ≡ add32 x y ⌝ }
-{
-    std::num::wrapping_add_u32(x, y)
-}
 
 // Ch and Maj in fewer operations than section 4.1.2 writes; of Maj's x ^ y and y ^ z one is the round before's.
 fn ch(x: u32, y: u32, z: u32) -> u32
@@ -279,31 +258,11 @@ fn add_state(v: State, s: State) -> State
     }
 }
 
-// A word of four bytes. Here and not a call of `octets`: it is made sixteen times for each block.
-fn big_endian(a: u8, b: u8, c: u8, d: u8) -> u32
-    ensures { λ r. ⌜ r ≡ unbe (a ∷ b ∷ c ∷ d ∷ []) ⌝ }
-{
-    ((a as u32 * 256 + b as u32) * 256 + c as u32) * 256 + d as u32
-}
-
-// The sixteen words of the 64 bytes from p on.
-fn load(m: &[u8], p: usize, w: &mut [u32])
-    requires { ⌜ (p + 64 ≤ length (now m)) × (length (now w) ≡ 64) ⌝ }
-    ensures { λ _. ⌜ Known (now (w .exit)) (wordFrom (now (m .entry)) p) 16 ⌝ }
-{
-    let mut t = 0;
-    while t < 16 {
-        let q = p + 4 * t;
-        w[t] = big_endian(m[q], m[q + 1], m[q + 2], m[q + 3]);
-        t += 1;
-    }
-}
-
 // The hash value after the block that starts at byte p of m.
 fn compress(s: State, m: &[u8], p: usize, w: &mut [u32]) -> State
     requires { ⌜ (p + 64 ≤ length (now m)) × (length (now w) ≡ 64) ⌝ }
     ensures { λ r. ⌜ r ≡ compressOf s (wordFrom (now (m .entry)) p) ⌝ }
-    ensures { λ _. ⌜ now (w .exit) ≡ schedule (wordFrom (now (m .entry)) p) 64 ⌝ }
+    ensures { λ _. ⌜ now (w .exit) ≡ schedule (wordFrom (now (m .entry)) p) ⌝ }
 {
     load(m, p, w);
     let v = run(s, w, &K);
@@ -329,8 +288,8 @@ pub fn initial() -> State
 // The block step on the 64 bytes from p on of a message, which are read where they lie. Where m has fewer, or w is not 64 words, the hash value and w
 // stay as they were.
 pub fn step_at(s: State, m: &[u8], p: usize, w: &mut [u32]) -> State
-    ensures { λ r. ⌜ r ≡ valueAfter s (now (m .entry)) p (now (w .entry)) ⌝ }
-    ensures { λ _. ⌜ now (w .exit) ≡ scheduleAfter (now (m .entry)) p (now (w .entry)) ⌝ }
+    ensures { λ r. ⌜ r ≡ valueAfter 64 compressOf s (now (m .entry)) p (now (w .entry)) ⌝ }
+    ensures { λ _. ⌜ now (w .exit) ≡ scheduleAfter 64 schedule (now (m .entry)) p (now (w .entry)) ⌝ }
 {
     if m.len() < 64 {
         return s;
@@ -347,8 +306,8 @@ pub fn step_at(s: State, m: &[u8], p: usize, w: &mut [u32]) -> State
 
 // The block step: the hash value after a block, whose schedule is left in w. 5: the block is not 64 bytes. 9: w is not 64 words.
 pub fn step(s: State, m: &[u8], w: &mut [u32]) -> Stepped
-    ensures { λ r. ⌜ stepping r ≡ stepAnswer s (now (m .entry)) (now (w .entry)) ⌝ }
-    ensures { λ _. ⌜ now (w .exit) ≡ stepSchedule (now (m .entry)) (now (w .entry)) ⌝ }
+    ensures { λ r. ⌜ stepping r ≡ stepAnswer 64 compressOf s (now (m .entry)) (now (w .entry)) ⌝ }
+    ensures { λ _. ⌜ now (w .exit) ≡ stepSchedule 64 schedule (now (m .entry)) (now (w .entry)) ⌝ }
 {
     if m.len() != 64 {
         return Stepped::Refused(5);
@@ -361,8 +320,8 @@ pub fn step(s: State, m: &[u8], w: &mut [u32]) -> Stepped
 
 // What the layers above may use of the block step beside the contracts. It does nothing.
 pub fn claims()
-    ensures block_is_taken { λ _. ⌜ BlockIsTaken ⌝ }
-    ensures block_at_is_taken { λ _. ⌜ BlockAtIsTaken ⌝ }
+    ensures block_is_taken { λ _. ⌜ BlockIsTaken 64 compressOf schedule ⌝ }
+    ensures block_at_is_taken { λ _. ⌜ BlockAtIsTaken 64 compressOf schedule ⌝ }
     ensures by_sixteen_words { λ _. ⌜ BySixteenWords ⌝ }
-    ensures step_loses_nothing { λ _. ⌜ StepLosesNothing ⌝ }
+    ensures example_hashes { λ _. ⌜ ExampleHashes ⌝ }
 {}

@@ -10,11 +10,12 @@ use super::parts::proof_into;
 use super::refusal::JOINED;
 use super::refusal::RANGE;
 use super::refusal::ROOM;
+use hash::Algorithm;
 use hash::Digest;
 use hash::Hashed;
 ghost use mathlib.Core.Path.{_≡_};
 ghost use lib.ListN.{length, replicate};
-ghost use Rattle.hash.specs.Digest.{sha256};
+ghost use Rattle.hash.specs.Digest.{hashOf};
 ghost use Rattle.tree.specs.Build.{building, buildReport, output, unfit, rootBuilt, inclusionBuilt, consistencyBuilt, rootNumber, rootBytes};
 
 // What a builder answers: how many bytes it wrote, or the number of its refusal.
@@ -44,9 +45,9 @@ fn refused(number: u32) -> Hashed
 }
 
 // The root of joined leaf hashes by value, and 0; or 10 and 32 zeros.
-pub fn root_of(leaves: &[u8]) -> Hashed
+pub fn root_of(alg: Algorithm, leaves: &[u8]) -> Hashed
     ensures { λ r. ⌜ r .number ≡ rootNumber (now (leaves .entry)) ⌝ }
-    ensures { λ r. ⌜ r .digest .bytes ≡ rootBytes sha256 (now (leaves .entry)) ⌝ }
+    ensures { λ r. ⌜ r .digest .bytes ≡ rootBytes (hashOf alg) (now (leaves .entry)) ⌝ }
 {
     if bad_leaves(leaves) {
         return refused(JOINED);
@@ -55,19 +56,19 @@ pub fn root_of(leaves: &[u8]) -> Hashed
     if n == 0 {
         return Hashed {
             number: 0,
-            digest: hash::empty(),
+            digest: hash::empty(alg),
         };
     }
     Hashed {
         number: 0,
-        digest: part_root(leaves, 0, n),
+        digest: part_root(alg, leaves, 0, n),
     }
 }
 
 // Writes the root of joined leaf hashes.
-pub fn root(leaves: &[u8], out: &mut [u8]) -> Built
+pub fn root(alg: Algorithm, leaves: &[u8], out: &mut [u8]) -> Built
     ensures { λ r. ⌜
-        (let o = rootBuilt sha256 (now (leaves .entry)) (length (now (out .entry))) in
+        (let o = rootBuilt (hashOf alg) (now (leaves .entry)) (length (now (out .entry))) in
         (building r ≡ buildReport o) × (now (out .exit) ≡ output o (now (out .entry)))) ⌝ }
 {
     if bad_leaves(leaves) {
@@ -76,16 +77,16 @@ pub fn root(leaves: &[u8], out: &mut [u8]) -> Built
     if out.len() < 32 {
         return Built::Refused(ROOM);
     }
-    let made = root_of(leaves);
+    let made = root_of(alg, leaves);
     let digest = made.digest;
     put_node(digest, out, 0);
     Built::Wrote(32)
 }
 
 // Writes the inclusion path of a place.
-pub fn inclusion_path(leaves: &[u8], place: u64, out: &mut [u8]) -> Built
+pub fn inclusion_path(alg: Algorithm, leaves: &[u8], place: u64, out: &mut [u8]) -> Built
     ensures { λ r. ⌜
-        (let o = inclusionBuilt sha256 (now (leaves .entry)) place (length (now (out .entry))) in
+        (let o = inclusionBuilt (hashOf alg) (now (leaves .entry)) place (length (now (out .entry))) in
         (building r ≡ buildReport o) × (now (out .exit) ≡ output o (now (out .entry)))) ⌝ }
 {
     if bad_leaves(leaves) {
@@ -98,13 +99,13 @@ pub fn inclusion_path(leaves: &[u8], place: u64, out: &mut [u8]) -> Built
     if out.len() / 32 < inclusion_count(place, n as u64) {
         return Built::Refused(ROOM);
     }
-    Built::Wrote(path_into(leaves, 0, n, place as usize, out))
+    Built::Wrote(path_into(alg, leaves, 0, n, place as usize, out))
 }
 
 // Writes the consistency path from a first size to the size of the list.
-pub fn consistency_path(leaves: &[u8], first: u64, out: &mut [u8]) -> Built
+pub fn consistency_path(alg: Algorithm, leaves: &[u8], first: u64, out: &mut [u8]) -> Built
     ensures { λ r. ⌜
-        (let o = consistencyBuilt sha256 (now (leaves .entry)) first (length (now (out .entry))) in
+        (let o = consistencyBuilt (hashOf alg) (now (leaves .entry)) first (length (now (out .entry))) in
         (building r ≡ buildReport o) × (now (out .exit) ≡ output o (now (out .entry)))) ⌝ }
 {
     if bad_leaves(leaves) {
@@ -120,5 +121,5 @@ pub fn consistency_path(leaves: &[u8], first: u64, out: &mut [u8]) -> Built
     if out.len() / 32 < subproof_count(first, n as u64, true) {
         return Built::Refused(ROOM);
     }
-    Built::Wrote(proof_into(leaves, 0, n, first as usize, true, out))
+    Built::Wrote(proof_into(alg, leaves, 0, n, first as usize, true, out))
 }

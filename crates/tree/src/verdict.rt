@@ -11,13 +11,21 @@ use super::refusal::RANGE;
 use super::refusal::ROOT;
 use super::yields::consistency_roots;
 use super::yields::inclusion_root;
+use hash::Algorithm;
 ghost use mathlib.Core.Path.{_≡_};
-ghost use Rattle.hash.specs.Digest.{sha256};
+ghost use Rattle.hash.specs.Digest.{hashOf};
 ghost use Rattle.tree.specs.Verdict.{inclusionVerdict, consistencyVerdict};
 
 // Whether a path shows the leaf hash at a place of a tree with this size and root.
-pub fn inclusion_verdict(leaf: &[u8], place: u64, size: u64, root: &[u8], path: &[u8]) -> u32
-    ensures { λ r. ⌜ r ≡ inclusionVerdict sha256 (now (leaf .entry)) place size (now (root .entry)) (now (path .entry)) ⌝ }
+pub fn inclusion_verdict(
+    alg: Algorithm,
+    leaf: &[u8],
+    place: u64,
+    size: u64,
+    root: &[u8],
+    path: &[u8],
+) -> u32
+    ensures { λ r. ⌜ r ≡ inclusionVerdict (hashOf alg) (now (leaf .entry)) place size (now (root .entry)) (now (path .entry)) ⌝ }
 {
     if leaf.len() != 32 {
         return LENGTH;
@@ -38,7 +46,7 @@ pub fn inclusion_verdict(leaf: &[u8], place: u64, size: u64, root: &[u8], path: 
     if count != inclusion_count(place, size) {
         return COUNT;
     }
-    let yielded = inclusion_root(node_at(leaf, 0), place, size, path, count);
+    let yielded = inclusion_root(alg, node_at(leaf, 0), place, size, path, count);
     if !equals(yielded, root) {
         return ROOT;
     }
@@ -46,8 +54,15 @@ pub fn inclusion_verdict(leaf: &[u8], place: u64, size: u64, root: &[u8], path: 
 }
 
 // Whether a path shows the tree of the first size and root to be the start of the tree of the second.
-pub fn consistency_verdict(first: u64, second: u64, old: &[u8], new: &[u8], path: &[u8]) -> u32
-    ensures { λ r. ⌜ r ≡ consistencyVerdict sha256 first second (now (old .entry)) (now (new .entry)) (now (path .entry)) ⌝ }
+pub fn consistency_verdict(
+    alg: Algorithm,
+    first: u64,
+    second: u64,
+    old: &[u8],
+    new: &[u8],
+    path: &[u8],
+) -> u32
+    ensures { λ r. ⌜ r ≡ consistencyVerdict (hashOf alg) first second (now (old .entry)) (now (new .entry)) (now (path .entry)) ⌝ }
 {
     if old.len() != 32 {
         return LENGTH;
@@ -68,7 +83,7 @@ pub fn consistency_verdict(first: u64, second: u64, old: &[u8], new: &[u8], path
     if count != subproof_count(first, second, true) {
         return COUNT;
     }
-    let yielded = consistency_roots(node_at(old, 0), first, second, true, path, count);
+    let yielded = consistency_roots(alg, node_at(old, 0), first, second, true, path, count);
     let start = yielded.old;
     if !equals(start, old) {
         return ROOT;

@@ -2,7 +2,7 @@
 //! beside the node hashes that it needs, which `pace` times too, and beside a frontier in Rust with the same hash code.
 
 use crate::pairs::node;
-use crate::{best, median};
+use crate::{best, ratio};
 use reference::growing::LEVELS;
 use reference::pace;
 use reference::tree::Hash;
@@ -116,12 +116,6 @@ fn times(ours: &mut Pace, leaves: &[Hash]) -> [Vec<f64>; 6] {
         turn(&mut || all_roots(black_box(leaves)));
     }
     all
-}
-
-/// Of the best turns, and the median of each turn's.
-fn ratio(above: &[f64], below: &[f64]) -> String {
-    let turns: Vec<f64> = above.iter().zip(below).map(|(above, below)| above / below).collect();
-    format!("{:.3} ({:.3})", best(above) / best(below), median(&turns))
 }
 
 pub fn print_table() {

@@ -1,8 +1,8 @@
-//! Times the proved hash beside the plain algorithm in C (gcc -O3) and Rust
+//! Times the proved hashes beside the plain algorithms in C (gcc -O3) and Rust
 //! (release), and OpenSSL: one machine, one run, the contestants in turn.
-//! A ratio is the plain time divided by ours: above 1, ours is faster. Then the
-//! tree and the items, each beside one other way, the growing tree, and the verdicts
-//! beside those of an earlier library where the build was given one.
+//! A ratio is the other's time divided by ours: above 1, ours is faster. Then the
+//! tree and the items, each beside one other way, the growing tree, and SHA-256 and the
+//! verdicts beside those of an earlier library where the build was given one.
 
 mod before;
 mod contestants;
@@ -11,7 +11,7 @@ mod library;
 mod openssl;
 mod pairs;
 
-use contestants::{Contestant, OURS, PLAIN_C, PLAIN_RUST};
+use contestants::{Contestant, OURS, OUR_SM3, PLAIN_C, PLAIN_C_SM3, PLAIN_RUST, PLAIN_RUST_SM3, SCALAR_C_SM3};
 use std::hint::black_box;
 use std::io::{BufRead, BufReader, Write};
 use std::process::{Child, ChildStdin, ChildStdout, Command, Stdio};
@@ -31,6 +31,11 @@ enum Job {
 
 const SHORT: [usize; 8] = [0, 1, 32, 55, 56, 64, 100, 118];
 
+fn sm3_jobs() -> Vec<(String, Job)> {
+    let jobs = [("block step", Job::Step), ("node hash", Job::Node), ("digest 1 MiB", Job::Digest(1 << 20)), ("leaf 100", Job::Leaf(100))];
+    jobs.map(|(name, job)| (format!("SM3 {name}"), job)).into()
+}
+
 fn jobs() -> Vec<(String, Job)> {
     let mut jobs = vec![
         ("block step".to_string(), Job::Step),
@@ -47,13 +52,13 @@ fn input(count: usize) -> Vec<u8> {
 }
 
 /// Does a job so many times; nanoseconds of all of them.
-fn time(contestant: &Contestant, job: Job, times: usize) -> f64 {
+fn time<const WORDS: usize>(contestant: &Contestant<WORDS>, job: Job, times: usize) -> f64 {
     let mut out = [0; 32];
     match job {
         Job::Step => {
             let mut state = [1; 8];
             let block: [u8; 64] = input(64).try_into().unwrap();
-            let mut schedule = [0; 64];
+            let mut schedule = [0; WORDS];
             let start = Instant::now();
             for _ in 0..times {
                 (contestant.step)(black_box(&mut state), black_box(&block), black_box(&mut schedule));
@@ -87,26 +92,29 @@ fn time(contestant: &Contestant, job: Job, times: usize) -> f64 {
     }
 }
 
-/// All contestants give the same answers, or nothing is timed.
-fn check(contestant: &Contestant) {
+/// All contestants give the same answers as plain Rust, or nothing is timed.
+fn check<const WORDS: usize>(contestant: &Contestant<WORDS>, plain: &Contestant<WORDS>) {
     let (mut out, mut expected) = ([0; 32], [0; 32]);
     for count in (0..300).chain([1 << 20]) {
         let input = input(count);
         (contestant.digest)(&input, &mut out);
-        (PLAIN_RUST.digest)(&input, &mut expected);
+        (plain.digest)(&input, &mut expected);
         assert_eq!(out, expected, "{}: digest of {count} bytes", contestant.name);
         (contestant.leaf)(&input, &mut out);
-        (PLAIN_RUST.leaf)(&input, &mut expected);
+        (plain.leaf)(&input, &mut expected);
         assert_eq!(out, expected, "{}: leaf of {count} bytes", contestant.name);
     }
     (contestant.node)(&[7; 32], &[8; 32], &mut out);
-    (PLAIN_RUST.node)(&[7; 32], &[8; 32], &mut expected);
+    (plain.node)(&[7; 32], &[8; 32], &mut expected);
     assert_eq!(out, expected, "{}: node", contestant.name);
     let block: [u8; 64] = input(64).try_into().unwrap();
     let (mut state, mut expected) = ([5; 8], [5; 8]);
-    (contestant.step)(&mut state, &block, &mut [0; 64]);
-    (PLAIN_RUST.step)(&mut expected, &block, &mut [0; 64]);
-    assert_eq!(state, expected, "{}: block step", contestant.name);
+    let (mut words, mut expected_words) = ([0; WORDS], [0; WORDS]);
+    if contestant.is_step_over_the_given {
+        (contestant.step)(&mut state, &block, &mut words);
+        (plain.step)(&mut expected, &block, &mut expected_words);
+        assert_eq!(state, expected, "{}: block step", contestant.name);
+    }
 }
 
 /// OpenSSL in a process of its own, asked for one turn at a time.
@@ -117,9 +125,9 @@ struct OtherProcess {
 }
 
 impl OtherProcess {
-    fn start(without_hardware: bool) -> OtherProcess {
+    fn start(which: &str, without_hardware: bool) -> OtherProcess {
         let mut command = Command::new(std::env::current_exe().unwrap());
-        command.arg("openssl").stdin(Stdio::piped()).stdout(Stdio::piped());
+        command.arg(which).stdin(Stdio::piped()).stdout(Stdio::piped());
         if without_hardware {
             // CPUID 7, EBX, bit 29: the SHA instructions.
             command.env("OPENSSL_ia32cap", ":~0x20000000");
@@ -143,14 +151,13 @@ impl OtherProcess {
     }
 }
 
-fn serve_openssl() {
-    check(&openssl::OPENSSL);
-    let jobs = jobs();
+fn serve<const WORDS: usize>(contestant: &Contestant<WORDS>, plain: &Contestant<WORDS>, jobs: &[(String, Job)]) {
+    check(contestant, plain);
     for line in std::io::stdin().lines() {
         let line = line.unwrap();
         let (job, times) = line.split_once(' ').unwrap();
         let (_, job) = jobs[job.parse::<usize>().unwrap()];
-        println!("{}", time(&openssl::OPENSSL, job, times.parse().unwrap()));
+        println!("{}", time(contestant, job, times.parse().unwrap()));
     }
 }
 
@@ -170,53 +177,91 @@ fn machine() -> String {
     model.unwrap_or("unknown machine").to_string()
 }
 
-fn main() {
-    if std::env::args().nth(1).as_deref() == Some("openssl") {
-        return serve_openssl();
-    }
-    let here = [OURS, PLAIN_C, PLAIN_RUST];
-    here.iter().for_each(check);
-    let mut others = Vec::new();
-    if openssl::is_here() {
-        others.push(OtherProcess::start(false));
-        others.push(OtherProcess::start(true));
-    }
+/// Of the best turns, and the median of each turn's.
+fn ratio(above: &[f64], below: &[f64]) -> String {
+    let turns: Vec<f64> = above.iter().zip(below).map(|(above, below)| above / below).collect();
+    format!("{:.3} ({:.3})", best(above) / best(below), median(&turns))
+}
 
-    println!("machine: {}", machine());
-    println!("{TURNS} turns of each contestant, one after the other; nanoseconds of the best turn");
-    println!("ratio: plain time / ours, of the best turns (and the median of each turn's); above 1, ours is faster");
+/// One hash: ours and the others here, then those in processes of their own. `heads` are the
+/// names of all; of those in `ratios` the time is divided by ours. `target`: of which jobs what is wanted.
+fn print_hash<const WORDS: usize>(
+    here: &[Contestant<WORDS>],
+    others: &mut [OtherProcess],
+    heads: &[&str],
+    ratios: &[usize],
+    jobs: &[(String, Job)],
+    target: impl Fn(Job) -> &'static str,
+) {
+    print!("{:<18}", "");
+    heads.iter().for_each(|head| print!("{head:>14}"));
+    ratios.iter().for_each(|place| print!("{:>20}", format!("{} / ours", heads[*place])));
     println!();
-    let heads = ["ours", "plain C", "plain Rust", "OpenSSL", "no SHA-NI"];
-    print!("{:<14}", "");
-    for head in &heads[..here.len() + others.len()] {
-        print!("{head:>12}");
-    }
-    println!("{:>16}{:>16}", "C / ours", "Rust / ours");
-
-    for (index, (name, job)) in jobs().into_iter().enumerate() {
-        let one = best(&[0; 5].map(|_| time(&PLAIN_C, job, 3) / 3.0));
+    for (index, (name, job)) in jobs.iter().enumerate() {
+        let one = best(&[0; 5].map(|_| time(&here[1], *job, 3) / 3.0));
         let times = ((TURN_NANOSECONDS / one) as usize).max(1);
         let mut all = vec![Vec::new(); here.len() + others.len()];
         for _ in 0..TURNS {
             for (place, contestant) in here.iter().enumerate() {
-                all[place].push(time(contestant, job, times) / times as f64);
+                all[place].push(time(contestant, *job, times) / times as f64);
             }
             for (place, other) in others.iter_mut().enumerate() {
                 all[here.len() + place].push(other.time(index, times) / times as f64);
             }
         }
-        print!("{name:<14}");
-        for times in &all {
-            print!("{:>12.1}", best(times));
-        }
-        for plain in [1, 2] {
-            let turns: Vec<f64> = all[plain].iter().zip(&all[0]).map(|(plain, ours)| plain / ours).collect();
-            print!("{:>16}", format!("{:.3} ({:.3})", best(&all[plain]) / best(&all[0]), median(&turns)));
-        }
-        println!();
+        let mut line = format!("{name:<18}");
+        all.iter().for_each(|times| line += &format!("{:>14.1}", best(times)));
+        ratios.iter().for_each(|place| line += &format!("{:>20}", ratio(&all[*place], &all[0])));
+        println!("{}", format!("{line}  {}", target(*job)).trim_end());
     }
-    others.into_iter().for_each(OtherProcess::end);
     println!();
+}
+
+fn print_sha256() {
+    let here = [OURS, PLAIN_C, PLAIN_RUST];
+    here.iter().for_each(|contestant| check(contestant, &PLAIN_RUST));
+    let mut others = Vec::new();
+    if openssl::is_here() {
+        others.push(OtherProcess::start("openssl", false));
+        others.push(OtherProcess::start("openssl", true));
+    }
+    let heads = ["ours", "plain C", "plain Rust", "OpenSSL", "no SHA-NI"];
+    let heads = &heads[..here.len() + others.len()];
+    print_hash(&here, &mut others, heads, &[1, 2], &jobs(), |_| "");
+    others.into_iter().for_each(OtherProcess::end);
+}
+
+/// SM3, beside plain C without gcc's vectoriser and with it.
+fn print_sm3() {
+    let here = [OUR_SM3, SCALAR_C_SM3, PLAIN_C_SM3, PLAIN_RUST_SM3];
+    here.iter().for_each(|contestant| check(contestant, &PLAIN_RUST_SM3));
+    let mut others = Vec::new();
+    if openssl::is_sm3_here() {
+        others.push(OtherProcess::start("openssl-sm3", false));
+    }
+    let (heads, ratios) = (["ours", "C, no vector", "C", "plain Rust", "OpenSSL"], [1, 2, 3, 4]);
+    let (heads, ratios) = (&heads[..here.len() + others.len()], &ratios[..here.len() - 1 + others.len()]);
+    print_hash(&here, &mut others, heads, ratios, &sm3_jobs(), |job| match job {
+        Job::Step | Job::Node => "at least 1.15",
+        _ => "",
+    });
+    others.into_iter().for_each(OtherProcess::end);
+}
+
+fn main() {
+    match std::env::args().nth(1).as_deref() {
+        Some("openssl") => return serve(&openssl::OPENSSL, &PLAIN_RUST, &jobs()),
+        Some("openssl-sm3") => return serve(&openssl::OPENSSL_SM3, &PLAIN_RUST_SM3, &sm3_jobs()),
+        _ => (),
+    }
+    println!("machine: {}", machine());
+    println!("{TURNS} turns of each contestant, one after the other; nanoseconds of the best turn");
+    println!("ratio: the other's time / ours, of the best turns (and the median of each turn's); above 1, ours is faster");
+    println!();
+    print_sha256();
+    println!("SM3 by its number; plain C by gcc -O3 with the vectoriser off (C, no vector) and on (C)");
+    println!();
+    print_sm3();
     pairs::print_table();
     growing::print_table();
     before::print_table();

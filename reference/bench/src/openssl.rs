@@ -1,7 +1,8 @@
-//! OpenSSL's SHA-256, where the machine has libcrypto: loaded at run time, in a
+//! OpenSSL's SHA-256 and SM3, where the machine has libcrypto: loaded at run time, in a
 //! process of its own, since OPENSSL_ia32cap is read when it is loaded.
 
-use crate::contestants::Contestant;
+use crate::contestants::{Contestant, Sha256, Sm3};
+use std::cell::Cell;
 use std::ffi::{c_char, c_int, c_void, CStr};
 use std::sync::OnceLock;
 
@@ -28,18 +29,41 @@ struct Functions {
 
 static FUNCTIONS: OnceLock<Option<Functions>> = OnceLock::new();
 
+// SM3 has no functions of its own that a caller sees: it goes by those for any digest.
+type Named = unsafe extern "C" fn() -> *const c_void;
+type New = unsafe extern "C" fn() -> *mut c_void;
+type Start = unsafe extern "C" fn(*mut c_void, *const c_void, *const c_void) -> c_int;
+type More = unsafe extern "C" fn(*mut c_void, *const u8, usize) -> c_int;
+type End = unsafe extern "C" fn(*mut c_void, *mut u8, *mut u32) -> c_int;
+
+struct Digests {
+    sm3: Named,
+    new: New,
+    start: Start,
+    more: More,
+    end: End,
+}
+
+static DIGESTS: OnceLock<Option<Digests>> = OnceLock::new();
+
+fn digests() -> Option<&'static Digests> {
+    DIGESTS.get_or_init(load_digests).as_ref()
+}
+
 fn functions() -> Option<&'static Functions> {
     FUNCTIONS.get_or_init(load).as_ref()
 }
 
-fn load() -> Option<Functions> {
+/// A function of libcrypto, of the type that the caller says.
+fn symbol(name: &CStr) -> Option<*mut c_void> {
     const NOW: c_int = 2;
     let names = [c"libcrypto.so.3", c"libcrypto.so.1.1", c"libcrypto.so"];
     let library = names.iter().map(|name| unsafe { dlopen(name.as_ptr(), NOW) }).find(|handle| !handle.is_null())?;
-    let symbol = |name: &CStr| {
-        let found = unsafe { dlsym(library, name.as_ptr()) };
-        (!found.is_null()).then_some(found)
-    };
+    let found = unsafe { dlsym(library, name.as_ptr()) };
+    (!found.is_null()).then_some(found)
+}
+
+fn load() -> Option<Functions> {
     unsafe {
         Some(Functions {
             init: std::mem::transmute::<*mut c_void, Init>(symbol(c"SHA256_Init")?),
@@ -50,8 +74,27 @@ fn load() -> Option<Functions> {
     }
 }
 
+fn load_digests() -> Option<Digests> {
+    unsafe {
+        let digests = Digests {
+            sm3: std::mem::transmute::<*mut c_void, Named>(symbol(c"EVP_sm3")?),
+            new: std::mem::transmute::<*mut c_void, New>(symbol(c"EVP_MD_CTX_new")?),
+            start: std::mem::transmute::<*mut c_void, Start>(symbol(c"EVP_DigestInit_ex")?),
+            more: std::mem::transmute::<*mut c_void, More>(symbol(c"EVP_DigestUpdate")?),
+            end: std::mem::transmute::<*mut c_void, End>(symbol(c"EVP_DigestFinal_ex")?),
+        };
+        // A libcrypto can be built without SM3.
+        let context = (digests.new)();
+        ((digests.start)(context, (digests.sm3)(), std::ptr::null()) == 1).then_some(digests)
+    }
+}
+
 pub fn is_here() -> bool {
     functions().is_some()
+}
+
+pub fn is_sm3_here() -> bool {
+    digests().is_some()
 }
 
 fn hash(parts: &[&[u8]], out: &mut [u8; 32]) {
@@ -66,7 +109,7 @@ fn hash(parts: &[&[u8]], out: &mut [u8; 32]) {
     }
 }
 
-pub const OPENSSL: Contestant = Contestant {
+pub const OPENSSL: Sha256 = Contestant {
     name: "OpenSSL",
     digest: |input, out| hash(&[input], out),
     leaf: |item, out| hash(&[&[0], item], out),
@@ -78,4 +121,44 @@ pub const OPENSSL: Contestant = Contestant {
         unsafe { (functions.transform)(&mut context, block.as_ptr()) };
         state.copy_from_slice(&context.0[..8]);
     },
+    is_step_over_the_given: true,
+};
+
+thread_local! {
+    /// One context of SM3, started, for all digests: it is started anew for each, which makes none.
+    static CONTEXT: Cell<*mut c_void> = const { Cell::new(std::ptr::null_mut()) };
+}
+
+fn sm3_context(digests: &Digests) -> *mut c_void {
+    if CONTEXT.get().is_null() {
+        let context = unsafe { (digests.new)() };
+        assert_eq!(unsafe { (digests.start)(context, (digests.sm3)(), std::ptr::null()) }, 1);
+        CONTEXT.set(context);
+    }
+    CONTEXT.get()
+}
+
+fn sm3(parts: &[&[u8]], out: &mut [u8; 32]) {
+    let digests = digests().expect("libcrypto");
+    let context = sm3_context(digests);
+    unsafe {
+        (digests.start)(context, std::ptr::null(), std::ptr::null());
+        for part in parts {
+            (digests.more)(context, part.as_ptr(), part.len());
+        }
+        (digests.end)(context, out.as_mut_ptr(), std::ptr::null_mut());
+    }
+}
+
+pub const OPENSSL_SM3: Sm3 = Contestant {
+    name: "OpenSSL",
+    digest: |input, out| sm3(&[input], out),
+    leaf: |item, out| sm3(&[&[0], item], out),
+    node: |left, right, out| sm3(&[&[1], left, right], out),
+    // One block more of a digest that does not end: its state cannot be given.
+    step: |_, block, _| unsafe {
+        let digests = digests().expect("libcrypto");
+        (digests.more)(sm3_context(digests), block.as_ptr(), 64);
+    },
+    is_step_over_the_given: false,
 };

@@ -2,8 +2,9 @@
 //! work: ours and the other in turn.
 
 use crate::library::OURS;
-use crate::{best, median};
+use crate::{best, ratio};
 use mta::{mta_carry, mta_compare, mta_consistency_item, mta_item, mta_node, mta_root};
+use reference::algorithm::SHA256;
 use reference::carry::{carry, PAIR};
 use reference::item::{self, Fields, LONGEST_PATH};
 use reference::layers::carry::Carry;
@@ -17,7 +18,7 @@ use std::time::Instant;
 
 /// Many short turns, so that some of each are undisturbed; fewer of the root.
 pub const TURNS: usize = 10_001;
-const TURNS_OF_ROOT: usize = 101;
+pub const TURNS_OF_ROOT: usize = 101;
 pub const TURN_NANOSECONDS: f64 = 20_000.0;
 
 enum Target {
@@ -39,7 +40,7 @@ struct Pair {
 
 pub fn node(left: &Hash, right: &Hash) -> Hash {
     let mut out = [0; 32];
-    assert_eq!(unsafe { mta_node(left.as_ptr(), 32, right.as_ptr(), 32, out.as_mut_ptr(), 32) }, 0);
+    assert_eq!(unsafe { mta_node(SHA256, left.as_ptr(), 32, right.as_ptr(), 32, out.as_mut_ptr(), 32) }, 0);
     out
 }
 
@@ -81,16 +82,16 @@ pub fn verdicts(random: &mut Random) -> Vec<(String, Proof)> {
     let mut all = Vec::new();
     for nodes in [10, 20, 32] {
         let size = 1 << nodes;
-        all.push(("inclusion", made_inclusion(alternating(size), size, random)));
+        all.push(("inclusion", made_inclusion(SHA256, alternating(size), size, random)));
     }
-    all.push(("inclusion", made_inclusion(0, LARGEST_SIZE, random)));
+    all.push(("inclusion", made_inclusion(SHA256, 0, LARGEST_SIZE, random)));
     for nodes in [10, 20, 32] {
         let size = 1 << nodes;
-        all.push(("consistency", made_consistency(alternating(size), size, random)));
+        all.push(("consistency", made_consistency(SHA256, alternating(size), size, random)));
     }
-    all.push(("consistency from 3", made_consistency(3, LARGEST_SIZE, random)));
+    all.push(("consistency from 3", made_consistency(SHA256, 3, LARGEST_SIZE, random)));
     for nodes in [10, 20, 32] {
-        all.push(("consistency from 1", made_consistency(1, 1 << nodes, random)));
+        all.push(("consistency from 1", made_consistency(SHA256, 1, 1 << nodes, random)));
     }
     all.into_iter().map(|(name, proof)| (format!("{name}, {} nodes", proof.path.len() / 32), proof)).collect()
 }
@@ -115,7 +116,7 @@ struct Log {
 
 impl Log {
     fn new(size: u64, random: &mut Random) -> Log {
-        let one = Carry::made(0, size - 1, size, random);
+        let one = Carry::made(SHA256, 0, size - 1, size, random);
         let ([leaf, root], [_, new]) = (&one.old.hashes, &one.step.hashes);
         let old = Inclusion { leaf, place: 0, size: size - 1, root, path: &one.old.path };
         let mut longer = vec![0; one.lent];
@@ -132,6 +133,7 @@ impl Log {
         let Carry { old, step, .. } = &self.one;
         let number = unsafe {
             mta_carry(
+                SHA256,
                 old.hashes[0].as_ptr(),
                 32,
                 0,
@@ -162,6 +164,7 @@ impl Log {
         let (leaf, path) = (old.hashes[0].as_ptr(), old.path.as_ptr());
         let number = unsafe {
             mta_compare(
+                SHA256,
                 0,
                 old.numbers[1],
                 old.hashes[1].as_ptr(),
@@ -216,7 +219,7 @@ fn plain_root(leaves: &[Hash]) -> Hash {
 
 fn our_root(joined: &[u8]) -> Hash {
     let mut out = [0; 32];
-    assert_eq!(unsafe { mta_root(joined.as_ptr(), joined.len(), out.as_mut_ptr(), 32) }, 0);
+    assert_eq!(unsafe { mta_root(SHA256, joined.as_ptr(), joined.len(), out.as_mut_ptr(), 32) }, 0);
     out
 }
 
@@ -325,8 +328,7 @@ pub fn print_table() {
             Target::AtLeast(least) => (&other, &ours, format!("at least {least:.2}")),
             Target::Open => (&other, &ours, String::new()),
         };
-        let ratios: Vec<f64> = above.iter().zip(below).map(|(above, below)| above / below).collect();
-        let ratio = format!("{:.3} ({:.3})", best(above) / best(below), median(&ratios));
+        let ratio = ratio(above, below);
         let line = format!("{:<30}{:>14.1}  {:<20}{:>14.1}{ratio:>18}  {target}", pair.name, best(&ours), pair.other_name, best(&other));
         println!("{}", line.trim_end());
     }

@@ -1,13 +1,13 @@
-//! mta_carry and mta_compare. No two strings of one SHA-256 value are known, so
-//! no call here has `collided` set.
+//! mta_carry and mta_compare, by both hashes and by numbers that no hash has. No two strings of
+//! one SHA-256 or SM3 value are known, so no call here has `collided` set.
 
 use crate::compare::{show, Lent, Tally};
 use mta::{mta_carry, mta_compare};
+use reference::algorithm::{self, known, KNOWN, UNKNOWN};
 use reference::carry::{self, Carried, Compared, PAIR};
 use reference::layers::carry::{some_carry, some_compared, Carry};
 use reference::proofs::{damaged, damaged_lengths, damaged_nodes, made_inclusion, List, Proof, LARGE};
 use reference::random::Random;
-use reference::sha256::digest;
 use reference::tree::LARGEST_SIZE;
 use reference::verdict::Inclusion;
 
@@ -22,7 +22,9 @@ fn carry(one: &Carry, tally: &mut Tally, random: &mut Random) -> u64 {
     let (out, pair) = (random.bytes(*lent), random.bytes(*pair));
     let (mut out_after, mut pair_after) = (out.clone(), pair.clone());
     let ([leaf, root], [_, new_root]) = (&old.hashes, &step.hashes);
-    let answer = carry::carry(digest, &inclusion(old), step.numbers[1], new_root, &step.path, &mut out_after, &mut pair_after);
+    let by = old.algorithm;
+    let answer =
+        known(by).and_then(|h| carry::carry(h, &inclusion(old), step.numbers[1], new_root, &step.path, &mut out_after, &mut pair_after));
     let (length_before, flag_before) = (random.draw(), random.byte() & 1);
     let (expected, length, is_collision) = match answer {
         Ok(Carried::Path(length)) => (0, length as u64, 0),
@@ -36,6 +38,7 @@ fn carry(one: &Carry, tally: &mut Tally, random: &mut Random) -> u64 {
     let mut collided = Lent::new(&[flag_before], random);
     let found = unsafe {
         mta_carry(
+            by,
             a.pointer(),
             a.length(),
             old.numbers[0],
@@ -70,8 +73,8 @@ fn compare([one, two]: [&Proof; 2], pair: usize, tally: &mut Tally, random: &mut
     let pair = random.bytes(pair);
     let mut after = pair.clone();
     let ([place, size], [leaf, root], [other, _]) = (one.numbers, &one.hashes, &two.hashes);
-    let flag_before = random.byte() & 1;
-    let (expected, is_collision) = match carry::compare(digest, &inclusion(one), other, &two.path, &mut after) {
+    let (flag_before, by) = (random.byte() & 1, one.algorithm);
+    let (expected, is_collision) = match known(by).and_then(|h| carry::compare(h, &inclusion(one), other, &two.path, &mut after)) {
         Ok(Compared::Same) => (0, 0),
         Ok(Compared::Collision) => (0, 1),
         Err(number) => (number, flag_before),
@@ -82,6 +85,7 @@ fn compare([one, two]: [&Proof; 2], pair: usize, tally: &mut Tally, random: &mut
     let mut collided = Lent::new(&[flag_before], random);
     let found = unsafe {
         mta_compare(
+            by,
             place,
             size,
             a.pointer(),
@@ -111,6 +115,9 @@ fn compare([one, two]: [&Proof; 2], pair: usize, tally: &mut Tally, random: &mut
 fn carry_and_damaged(one: &Carry, tally: &mut Tally, random: &mut Random) {
     for other in [vec![one.clone()], one.damaged(random)].concat() {
         carry(&other, tally, random);
+        // 16 before all else.
+        let by = algorithm::some_unknown(random);
+        assert_eq!(carry(&other.with(|c| c.old.algorithm = by), tally, random), 16);
     }
     for place in [one.old.numbers[1], u64::MAX] {
         assert_eq!(carry(&one.with(|c| c.old.numbers[0] = place), tally, random), 6);
@@ -137,16 +144,29 @@ fn compare_and_damaged(proof: &Proof, tally: &mut Tally, random: &mut Random) {
         compare([proof, other], pair, tally, random);
         compare([other, proof], pair, tally, random);
         compare([other, random.pick(&all)], pair, tally, random);
+        let by = algorithm::some_unknown(random);
+        assert_eq!(compare([&other.with(|p| p.algorithm = by), proof], pair, tally, random), 16);
+        assert_eq!(compare([&proof.with(|p| p.algorithm = by), other], pair, tally, random), 16);
+    }
+    for by in UNKNOWN {
+        assert_eq!(compare([&proof.with(|p| p.algorithm = by), proof], PAIR, tally, random), 16);
     }
 }
 
 pub fn edges(tally: &mut Tally, random: &mut Random) {
-    for size in 1..=9 {
-        let (list, another) = (List::random(size, random), List::random(size, random));
+    for (size, by) in (1..=9).flat_map(|size| KNOWN.map(|by| (size, by))) {
+        let (list, another) = (List::random(by, size, random), List::random(by, size, random));
         for first in 1..=size as u64 {
             for place in 0..first {
                 let one = Carry::of_list(&list, place, first);
-                carry_and_damaged(&one, tally, random);
+                if (first + place + size as u64) % 2 == (by == KNOWN[0]) as u64 {
+                    carry_and_damaged(&one, tally, random);
+                } else {
+                    carry(&one, tally, random);
+                }
+                // By the other hash only what no node was hashed for is right.
+                let number = carry(&one.with(|c| c.old.algorithm = algorithm::other(by)), tally, random);
+                assert_eq!(number, if size == 1 { 0 } else { 8 });
                 // Two proofs that are accepted, under two roots.
                 let other = Carry::of_list(&another, place, first);
                 carry(&one.with(|c| c.step = other.step), tally, random);
@@ -154,7 +174,9 @@ pub fn edges(tally: &mut Tally, random: &mut Random) {
         }
         for place in 0..size as u64 {
             let proof = list.inclusion(place);
-            compare_and_damaged(&proof, tally, random);
+            if (place + size as u64) % 2 == (by == KNOWN[0]) as u64 {
+                compare_and_damaged(&proof, tally, random);
+            }
             for other in 0..size as u64 {
                 compare([&proof, &list.inclusion(other)], PAIR, tally, random);
                 compare([&proof, &another.inclusion(other)], PAIR, tally, random);
@@ -166,7 +188,7 @@ pub fn edges(tally: &mut Tally, random: &mut Random) {
     const HALF: u64 = 1 << 63;
     const LAST: u64 = LARGEST_SIZE;
     let mut longest = (0, 0);
-    for (place, first, second) in [
+    for (turn, (place, first, second)) in [
         (0, PAST - 2, PAST - 1),
         (PAST - 2, PAST - 1, PAST),
         (PAST - 1, PAST, PAST),
@@ -182,14 +204,17 @@ pub fn edges(tally: &mut Tally, random: &mut Random) {
         (LAST - 2, LAST - 1, LAST),
         (0, LAST, LAST),
         (LAST - 1, LAST, LAST),
-    ] {
-        let one = Carry::made(place, first, second, random);
+    ]
+    .into_iter()
+    .enumerate()
+    {
+        let one = Carry::made(KNOWN[turn % 2], place, first, second, random);
         carry_and_damaged(&one, tally, random);
-        compare_and_damaged(&made_inclusion(place, first, random), tally, random);
+        compare_and_damaged(&made_inclusion(KNOWN[(turn + 1) % 2], place, first, random), tally, random);
         longest = (longest.0.max(one.lent), longest.1.max(one.step.path.len()));
     }
     assert_eq!(longest, (32 * 64, 32 * 65));
-    let (one, proof) = (Carry::made(2, 5, 9, random), made_inclusion(2, 5, random));
+    let (one, proof) = (Carry::made(KNOWN[1], 2, 5, 9, random), made_inclusion(KNOWN[0], 2, 5, random));
     for large in [&[0][..], &LARGE].concat() {
         carry(&one.with(|c| c.old.numbers[0] = large), tally, random);
         carry(&one.with(|c| c.old.numbers[1] = large), tally, random);

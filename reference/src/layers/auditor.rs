@@ -1,14 +1,14 @@
 //! The auditor: head offers and page calls over a record of any value, and
-//! disputes. With SHA-256 no collision can be met; the tests of this module run
-//! the same requests over a weak hash.
+//! disputes. With SHA-256 and SM3 no collision can be met; the tests of this module run
+//! the same requests over weak hashes.
 
+use crate::algorithm::{self, Hashes, KNOWN, SHA256, SM3, UNKNOWN};
 use crate::auditor::{self, disputes, join_head, Call, Dispute, Offer, PageCall, Settled, Stored, LONGEST_ID};
 use crate::proofs::{judged, next_to_powers, plain_consistency, some_places, Proof};
 use crate::random::Random;
 use crate::requests::{lines_that_are_no_request, Asked, Entry, Layer, Requests};
-use crate::servers::{spoil, Kind, Log, Server, KINDS};
-use crate::sha256::{digest, leaf, node};
-use crate::tree::{HashFunction, LARGEST_SIZE};
+use crate::servers::{spoil, with_strays, Kind, Log, Server, KINDS};
+use crate::tree::{leaf_hash, node_hash, Hash, LARGEST_SIZE};
 use crate::words::{bytes, number, repeated, short, Word};
 use crate::yields;
 use std::cmp::Ordering::{self, Equal, Greater, Less};
@@ -16,9 +16,9 @@ use std::cmp::Ordering::{self, Equal, Greater, Less};
 pub const LAYER: Layer = Layer {
     name: "auditor",
     entries: &[
-        Entry { name: "offer", answer: |words| offer(digest, words), random: random_offer },
-        Entry { name: "page", answer: |words| page(digest, words), random: random_page },
-        Entry { name: "dispute", answer: |words| dispute(digest, words), random: random_dispute },
+        Entry { name: "offer", answer: |words| offer(algorithm::hash, words), random: random_offer },
+        Entry { name: "page", answer: |words| page(algorithm::hash, words), random: random_page },
+        Entry { name: "dispute", answer: |words| dispute(algorithm::hash, words), random: random_dispute },
         Entry { name: "append", answer: append, random: random_append },
     ],
     lists: Some(random_list),
@@ -29,9 +29,10 @@ pub const LAYER: Layer = Layer {
 // Answers.
 
 fn read_record(words: &[Word]) -> Option<Stored> {
-    let [held, id, id_length, timestamp, size, root] = words else { return None };
+    let [held, algorithm, id, id_length, timestamp, size, root] = words else { return None };
     Some(Stored {
         held: held.as_flag()?,
+        algorithm: algorithm.as_number()?,
         id: id.as_bytes()?.try_into().ok()?,
         id_length: id_length.as_number()?,
         timestamp: timestamp.as_number()?,
@@ -43,6 +44,7 @@ fn read_record(words: &[Word]) -> Option<Stored> {
 fn record_words(record: &Stored) -> Vec<Word> {
     vec![
         number(record.held as u64),
+        number(record.algorithm),
         bytes(&record.id),
         number(record.id_length),
         number(record.timestamp),
@@ -53,7 +55,7 @@ fn record_words(record: &Stored) -> Vec<Word> {
 
 fn asked(record: &Stored) -> Vec<Word> {
     let mut words = record_words(record);
-    (words[1], words[5]) = (short(&record.id), short(&record.root));
+    (words[2], words[6]) = (short(&record.id), short(&record.root));
     words
 }
 
@@ -61,9 +63,9 @@ fn answered(refusal: u64, after: &Stored) -> Vec<Word> {
     [vec![number(refusal)], record_words(after)].concat()
 }
 
-fn offer(h: HashFunction, words: &[Word]) -> Option<Vec<Word>> {
-    let [.., log_id, timestamp, size, root, path] = words else { return None };
-    let record = read_record(&words[..words.len() - 5])?;
+fn offer(hashes: Hashes, words: &[Word]) -> Option<Vec<Word>> {
+    let [algorithm, record @ .., log_id, timestamp, size, root, path] = words else { return None };
+    let record = read_record(record)?;
     let one = Offer {
         log_id: log_id.as_bytes()?.to_vec(),
         timestamp: timestamp.as_number()?,
@@ -71,19 +73,19 @@ fn offer(h: HashFunction, words: &[Word]) -> Option<Vec<Word>> {
         root: root.as_bytes()?.to_vec(),
         path: path.as_bytes()?.to_vec(),
     };
-    let (refusal, after) = record.offer(h, &one);
+    let (refusal, after) = record.offer(hashes, algorithm.as_number()?, &one);
     Some(answered(refusal, &after))
 }
 
-fn page(h: HashFunction, words: &[Word]) -> Option<Vec<Word>> {
-    let [.., place, page, path] = words else { return None };
-    let record = read_record(&words[..words.len() - 3])?;
+fn page(hashes: Hashes, words: &[Word]) -> Option<Vec<Word>> {
+    let [algorithm, record @ .., place, page, path] = words else { return None };
+    let record = read_record(record)?;
     let one = PageCall { place: place.as_number()?, page: page.as_bytes()?.to_vec(), path: path.as_bytes()?.to_vec() };
-    Some(answered(record.page(h, &one), &record))
+    Some(answered(record.page(hashes, algorithm.as_number()?, &one), &record))
 }
 
-fn dispute(h: HashFunction, words: &[Word]) -> Option<Vec<Word>> {
-    let [page, place, path, size, root, heads, second_page, second_path, pair] = words else { return None };
+fn dispute(hashes: Hashes, words: &[Word]) -> Option<Vec<Word>> {
+    let [algorithm, page, place, path, size, root, heads, second_page, second_path, pair] = words else { return None };
     let one = Dispute {
         first: PageCall { place: place.as_number()?, page: page.as_bytes()?.to_vec(), path: path.as_bytes()?.to_vec() },
         size: size.as_number()?,
@@ -93,7 +95,7 @@ fn dispute(h: HashFunction, words: &[Word]) -> Option<Vec<Word>> {
         second_path: second_path.as_bytes()?.to_vec(),
     };
     let mut pair = pair.as_bytes()?.to_vec();
-    let (refusal, outcome) = match auditor::dispute(h, &one, &mut pair) {
+    let (refusal, outcome) = match auditor::dispute(hashes, algorithm.as_number()?, &one, &mut pair) {
         Settled::Refused(refusal) => (refusal, 0),
         Settled::Same => (0, 1),
         Settled::Nodes => (0, 2),
@@ -109,22 +111,23 @@ fn append(words: &[Word]) -> Option<Vec<Word>> {
     Some(vec![number(after.err().unwrap_or(0)), number(after.unwrap_or(0)), bytes(&journal)])
 }
 
-// Requests.
+// Requests, each by a number of its own.
 
-fn ask_offer(record: &Stored, one: &Offer) -> Asked {
-    let mut words = asked(record);
+fn ask_offer(by: u64, record: &Stored, one: &Offer) -> Asked {
+    let mut words = [vec![number(by)], asked(record)].concat();
     words.extend([short(&one.log_id), number(one.timestamp), number(one.size), short(&one.root), short(&one.path)]);
     ("offer", words)
 }
 
-fn ask_page(record: &Stored, one: &PageCall) -> Asked {
-    let mut words = asked(record);
+fn ask_page(by: u64, record: &Stored, one: &PageCall) -> Asked {
+    let mut words = [vec![number(by)], asked(record)].concat();
     words.extend([number(one.place), short(&one.page), short(&one.path)]);
     ("page", words)
 }
 
-fn ask_dispute(one: &Dispute, pair: Word) -> Asked {
+fn ask_dispute(by: u64, one: &Dispute, pair: Word) -> Asked {
     let words = vec![
+        number(by),
         short(&one.first.page),
         number(one.first.place),
         short(&one.first.path),
@@ -144,9 +147,9 @@ fn ask_append(journal: &[u8], used: u64, head: &Offer) -> Asked {
 
 /// The accepted heads appended to a journal, one after the other, some of them
 /// damaged too; the journal may be too short for the last ones.
-fn ask_journal(calls: &[Call], accepted: &[bool], random: &mut Random) -> Vec<Asked> {
+fn ask_journal(calls: &[(u64, Call)], accepted: &[bool], random: &mut Random) -> Vec<Asked> {
     let heads = || {
-        calls.iter().zip(accepted).filter_map(|(call, accepted)| match call {
+        calls.iter().zip(accepted).filter_map(|((_, call), accepted)| match call {
             Call::Offer(head) if *accepted => Some(head),
             _ => None,
         })
@@ -193,30 +196,30 @@ fn damaged_append(journal: &[u8], mut used: u64, mut head: Offer, random: &mut R
 /// A list of calls, each given the record that the call before returned; then the
 /// accepted heads appended to a journal, and the dispute of every two accepted
 /// pages at one place, some of them damaged.
-fn ask_list(h: HashFunction, calls: &[Call], random: &mut Random) -> Vec<Asked> {
+fn ask_list(hashes: Hashes, calls: &[(u64, Call)], random: &mut Random) -> Vec<Asked> {
     let mut record = Stored::EMPTY;
     let (mut all, mut accepted) = (Vec::new(), Vec::new());
-    for call in calls {
+    for (by, call) in calls {
         let refusal = match call {
             Call::Offer(one) => {
-                all.push(ask_offer(&record, one));
-                let (refusal, after) = record.offer(h, one);
+                all.push(ask_offer(*by, &record, one));
+                let (refusal, after) = record.offer(hashes, *by, one);
                 record = after;
                 refusal
             }
             Call::Page(one) => {
-                all.push(ask_page(&record, one));
-                record.page(h, one)
+                all.push(ask_page(*by, &record, one));
+                record.page(hashes, *by, one)
             }
         };
         accepted.push(refusal == 0);
     }
     all.extend(ask_journal(calls, &accepted, random));
-    for one in disputes(calls, &accepted) {
+    for (by, one) in disputes(calls, &accepted) {
         let room = *random.pick(&[130, 130, 131, 150]);
-        all.push(ask_dispute(&one, repeated(room, random.byte())));
+        all.push(ask_dispute(by, &one, repeated(room, random.byte())));
         if random.one_in(2) {
-            all.push(damaged_dispute(one, random));
+            all.push(damaged_dispute(by, one, random));
         }
     }
     all
@@ -235,7 +238,7 @@ fn starts(heads: &[u8]) -> Vec<usize> {
     starts
 }
 
-fn damaged_dispute(mut one: Dispute, random: &mut Random) -> Asked {
+fn damaged_dispute(mut by: u64, mut one: Dispute, random: &mut Random) -> Asked {
     let starts = starts(&one.heads);
     // A head that is there, or nothing.
     let (from, to) = match starts.len() {
@@ -246,7 +249,7 @@ fn damaged_dispute(mut one: Dispute, random: &mut Random) -> Asked {
         }
     };
     let mut room = 130;
-    match random.below(18) {
+    match random.below(20) {
         0 => one.heads.truncate(random.below(one.heads.len() as u64 + 1) as usize),
         1 => one.heads.truncate(one.heads.len().saturating_sub(1)),
         2 => drop(one.heads.drain(from..to)),
@@ -272,10 +275,12 @@ fn damaged_dispute(mut one: Dispute, random: &mut Random) -> Asked {
             let again = one.heads[from..to].to_vec();
             one.heads.splice(to..to, again);
         }
+        17 => by = algorithm::some_unknown(random),
+        18 => by = algorithm::other(by),
         _ => one.size = one.size.wrapping_add(random.below(3)).wrapping_sub(1),
     }
     let byte = random.byte();
-    ask_dispute(&one, repeated(room, byte))
+    ask_dispute(by, &one, repeated(room, byte))
 }
 
 // Committed cases.
@@ -316,9 +321,10 @@ fn with_single_faults<T: Clone>(good: &T, faults: &Faults<T>) -> Vec<(u64, T)> {
     all
 }
 
-/// An offer or a page call with the record that it is given.
+/// An offer or a page call with its number and the record that it is given.
 #[derive(Clone)]
 struct Given<T> {
+    by: u64,
     record: Stored,
     call: T,
 }
@@ -328,16 +334,20 @@ const ID: &[u8] = b"a log";
 /// The longest log id, of one byte: a record with it is written shorter.
 const LONG: &[u8] = &[7; LONGEST_ID];
 
-fn stored(id: &[u8], timestamp: u64, size: u64, root: [u8; 32]) -> Stored {
+fn node(by: u64, left: &Hash, right: &Hash) -> Hash {
+    node_hash(algorithm::of(by), left, right)
+}
+
+fn stored(by: u64, id: &[u8], timestamp: u64, size: u64, root: [u8; 32]) -> Stored {
     let offer = Offer { log_id: id.to_vec(), timestamp, size, root: root.to_vec(), path: vec![] };
-    let (refusal, record) = Stored::EMPTY.offer(digest, &offer);
+    let (refusal, record) = Stored::EMPTY.offer(algorithm::hash, by, &offer);
     assert_eq!(refusal, 0);
     record
 }
 
 /// A log of seven leaves, signed at 3, 6 and 7, with pages at 0 and 2.
-fn seven() -> Log {
-    let mut log = Log::random(digest, 1, &mut Random::new(7));
+fn seven(by: u64) -> Log {
+    let mut log = Log::random(algorithm::of(by), 1, &mut Random::new(7));
     log.sizes = vec![3, 6, 7];
     log.pages = [(0, b"first page".to_vec()), (2, b"third page".to_vec())].into();
     log
@@ -346,6 +356,11 @@ fn seven() -> Log {
 /// Of an offer with a later timestamp and a larger size.
 fn offer_faults() -> Faults<Given<Offer>> {
     vec![
+        (16, |g| g.by = 0x1f0),
+        (16, |g| g.by = algorithm::other(g.record.algorithm)),
+        (16, |g| g.record.algorithm = algorithm::other(g.by)),
+        (16, |g| g.record.algorithm ^= 0x100),
+        (16, |g| (g.by, g.record.algorithm) = (1, 1)),
         (5, |g| g.call.root.truncate(31)),
         (5, |g| g.call.root.push(0)),
         (5, |g| g.call.log_id.truncate(1)),
@@ -384,6 +399,9 @@ fn offer_faults() -> Faults<Given<Offer>> {
 
 fn offer_faults_of_the_empty_record() -> Faults<Given<Offer>> {
     vec![
+        (16, |g| g.by = 0x1f0),
+        (16, |g| g.by = 0x100),
+        (16, |g| g.by = u64::MAX),
         (5, |g| g.call.root.truncate(31)),
         (5, |g| g.call.root.push(0)),
         (5, |g| g.call.log_id.truncate(1)),
@@ -397,6 +415,11 @@ fn offer_faults_of_the_empty_record() -> Faults<Given<Offer>> {
 
 fn page_faults() -> Faults<Given<PageCall>> {
     vec![
+        (16, |g| g.by = 0xef),
+        // Of a head that is held: an empty record looks at no number of its own.
+        (16, |g| (g.record.held, g.by) = (true, algorithm::other(g.record.algorithm))),
+        (16, |g| (g.record.held, g.record.algorithm) = (true, algorithm::other(g.by))),
+        (16, |g| (g.record.held, g.by, g.record.algorithm) = (true, 1, 1)),
         (14, |g| g.record.held = false),
         (10, |g| g.call.path.push(0)),
         (6, |g| g.call.place = g.record.size),
@@ -413,6 +436,7 @@ fn page_faults() -> Faults<Given<PageCall>> {
 /// A dispute whose heads are not joined yet.
 #[derive(Clone)]
 struct Open {
+    by: u64,
     one: Dispute,
     heads: Vec<(u64, Vec<u8>, Vec<u8>)>,
     /// This head is cut after so many bytes, and none follows it.
@@ -431,14 +455,15 @@ impl Open {
                 break;
             }
         }
-        ask_dispute(&one, repeated(self.pair, 0x3c))
+        ask_dispute(self.by, &one, repeated(self.pair, 0x3c))
     }
 
     /// Of a page from one size to the last of these.
-    fn new(log: &Log, place: u64, sizes: &[u64]) -> Open {
+    fn new(by: u64, log: &Log, place: u64, sizes: &[u64]) -> Open {
         let (first, last) = (sizes[0], sizes[sizes.len() - 1]);
         let page = log.pages[&place].clone();
         Open {
+            by,
             one: Dispute {
                 first: PageCall { place, page: page.clone(), path: log.path(place, first) },
                 size: first,
@@ -457,6 +482,9 @@ impl Open {
 /// What is met before the heads.
 fn first_proof_faults() -> Faults<Open> {
     vec![
+        (16, |d| d.by = 0x1f0),
+        (16, |d| d.by = 1),
+        (16, |d| d.by = 0x100),
         (5, |d| d.one.root.truncate(31)),
         (10, |d| d.one.first.path.push(0)),
         (6, |d| d.one.first.place = d.one.size),
@@ -466,6 +494,7 @@ fn first_proof_faults() -> Faults<Open> {
         (8, |d| d.one.first.path[0] ^= 1),
         (8, |d| d.one.first.page.push(0)),
         (8, |d| d.one.root[0] ^= 1),
+        (8, |d| d.by = algorithm::other(d.by)),
     ]
 }
 
@@ -517,105 +546,109 @@ fn faults_with_heads() -> Faults<Open> {
 }
 
 /// Every request of the papers' rules, with the number that must be given.
-fn rules(every_pair: bool) -> Vec<(u64, Asked)> {
-    let log = seven();
+fn rules(by: u64, every_pair: bool) -> Vec<(u64, Asked)> {
+    let log = seven(by);
     let mut all = Vec::new();
     let offer =
         |timestamp: u64, size: u64, path: Vec<u8>| Offer { log_id: ID.to_vec(), timestamp, size, root: log.root(size).to_vec(), path };
     let offers = |all: &mut Vec<(u64, Asked)>, record: &Stored, call: Offer, faults: Faults<Given<Offer>>| {
-        let good = Given { record: record.clone(), call };
-        all.extend(with_faults(&good, &faults, every_pair).iter().map(|(refusal, one)| (*refusal, ask_offer(&one.record, &one.call))));
+        let good = Given { by, record: record.clone(), call };
+        all.extend(
+            with_faults(&good, &faults, every_pair).iter().map(|(refusal, one)| (*refusal, ask_offer(one.by, &one.record, &one.call))),
+        );
     };
     // A record that is empty may hold anything besides.
     let empty = Stored { id: [3; LONGEST_ID], id_length: 5, timestamp: 100, size: 9, root: [8; 32], ..Stored::EMPTY };
     offers(&mut all, &Stored::EMPTY, offer(50, 3, vec![]), offer_faults_of_the_empty_record());
     offers(&mut all, &empty, offer(50, 3, vec![]), offer_faults_of_the_empty_record());
-    let three = stored(ID, 50, 3, log.root(3));
+    let three = stored(by, ID, 50, 3, log.root(3));
     offers(&mut all, &three, offer(51, 7, log.consistency_path(3, 7)), offer_faults());
 
     // Limits, on both kinds of record: log ids, sizes and timestamps.
     for (length, refusal) in [(2, 0), (127, 0), (126, 0), (1, 5), (0, 5), (128, 5), (300, 5)] {
         let mut one = offer(0, 1, vec![]);
         one.log_id = (0..length).map(|i: u32| i as u8 | 1).collect();
-        all.push((refusal, ask_offer(&Stored::EMPTY, &one)));
+        all.push((refusal, ask_offer(by, &Stored::EMPTY, &one)));
         if refusal == 0 {
-            let record = stored(&one.log_id, 0, 1, log.root(1));
-            all.push((0, ask_offer(&record, &one)));
+            let record = stored(by, &one.log_id, 0, 1, log.root(1));
+            all.push((0, ask_offer(by, &record, &one)));
             // The same id with its last byte changed, without it, and with one more.
             let (last, rest) = one.log_id.split_last().unwrap();
             for log_id in [[rest, &[last ^ 1]].concat(), rest.to_vec(), [&one.log_id[..], &[1]].concat()] {
                 let other = Offer { log_id, ..one.clone() };
                 let refusal = if (2..=127).contains(&other.log_id.len()) { 11 } else { 5 };
-                all.push((refusal, ask_offer(&record, &other)));
+                all.push((refusal, ask_offer(by, &record, &other)));
             }
         } else {
-            all.push((refusal, ask_offer(&three, &one)));
+            all.push((refusal, ask_offer(by, &three, &one)));
         }
     }
     let hash = [6; 32];
     let any = |size: u64, path: Vec<u8>| Offer { log_id: LONG.to_vec(), timestamp: 50, size, root: hash.to_vec(), path };
     let later = |one: Offer| Offer { timestamp: 51, ..one };
-    all.push((6, ask_offer(&Stored::EMPTY, &any(0, vec![]))));
+    all.push((6, ask_offer(by, &Stored::EMPTY, &any(0, vec![]))));
     for size in [1, 2, 1 << 32, (1 << 32) + 1, 1 << 63, LARGEST_SIZE - 1, LARGEST_SIZE] {
-        all.push((0, ask_offer(&Stored::EMPTY, &any(size, vec![]))));
+        all.push((0, ask_offer(by, &Stored::EMPTY, &any(size, vec![]))));
         // The same head again, with a later and an earlier timestamp, with a node, and with another root.
-        let record = stored(LONG, 50, size, hash);
-        all.push((0, ask_offer(&record, &any(size, vec![]))));
-        all.push((0, ask_offer(&record, &Offer { timestamp: u64::MAX, ..any(size, vec![]) })));
-        all.push((12, ask_offer(&record, &Offer { timestamp: 49, ..any(size, vec![]) })));
-        all.push((7, ask_offer(&record, &any(size, vec![0; 32]))));
+        let record = stored(by, LONG, 50, size, hash);
+        all.push((0, ask_offer(by, &record, &any(size, vec![]))));
+        all.push((0, ask_offer(by, &record, &Offer { timestamp: u64::MAX, ..any(size, vec![]) })));
+        all.push((12, ask_offer(by, &record, &Offer { timestamp: 49, ..any(size, vec![]) })));
+        all.push((7, ask_offer(by, &record, &any(size, vec![0; 32]))));
         let other = Offer { root: vec![7; 32], ..any(size, vec![]) };
-        all.push((12, ask_offer(&record, &other)));
-        all.push((13, ask_offer(&record, &later(other))));
+        all.push((12, ask_offer(by, &record, &other)));
+        all.push((13, ask_offer(by, &record, &later(other))));
         if size < LARGEST_SIZE {
-            all.push((12, ask_offer(&record, &any(size + 1, vec![]))));
-            all.push((7, ask_offer(&record, &later(any(size + 1, vec![])))));
+            all.push((12, ask_offer(by, &record, &any(size + 1, vec![]))));
+            all.push((7, ask_offer(by, &record, &later(any(size + 1, vec![])))));
         }
-        all.push((6, ask_offer(&record, &any(size - 1, vec![]))));
+        all.push((6, ask_offer(by, &record, &any(size - 1, vec![]))));
     }
-    all.extend(one_millisecond_cases());
-    all.extend([0, 5, u64::MAX].into_iter().flat_map(grid));
-    all.extend(far_apart());
+    all.extend(one_millisecond_cases(by));
+    all.extend([0, 5, u64::MAX].into_iter().flat_map(|held| grid(by, held)));
+    all.extend(far_apart(by));
 
     // Records that no list of calls returns.
     for (id_length, whole) in [(0, false), (1, false), (127, true), (128, true), (1 << 63, true), (u64::MAX, true)] {
-        let record = Stored { held: true, id: [7; LONGEST_ID], id_length, ..stored(ID, 50, 3, log.root(3)) };
+        let record = Stored { held: true, id: [7; LONGEST_ID], id_length, ..stored(by, ID, 50, 3, log.root(3)) };
         let one = Offer { log_id: vec![7; LONGEST_ID], ..offer(51, 6, log.consistency_path(3, 6)) };
-        all.push((if whole { 0 } else { 11 }, ask_offer(&record, &one)));
-        all.push((11, ask_offer(&record, &Offer { log_id: vec![7; 126], ..one.clone() })));
+        all.push((if whole { 0 } else { 11 }, ask_offer(by, &record, &one)));
+        all.push((11, ask_offer(by, &record, &Offer { log_id: vec![7; 126], ..one.clone() })));
         let page = PageCall { place: 2, page: log.pages[&2].clone(), path: log.path(2, 3) };
-        all.push((0, ask_page(&record, &page)));
+        all.push((0, ask_page(by, &record, &page)));
     }
     // Bytes after the log id are not looked at, and are zeros once a head is accepted.
     let mut garbage = three.clone();
     garbage.id[ID.len()..].fill(0xee);
-    all.push((0, ask_offer(&garbage, &offer(51, 6, log.consistency_path(3, 6)))));
-    all.push((0, ask_offer(&garbage, &offer(50, 3, vec![]))));
-    all.push((12, ask_offer(&garbage, &offer(50, 6, log.consistency_path(3, 6)))));
-    all.push((12, ask_offer(&garbage, &offer(49, 6, log.consistency_path(3, 6)))));
-    all.push((11, ask_offer(&garbage, &Offer { log_id: garbage.id[..ID.len() + 1].to_vec(), ..offer(50, 6, vec![]) })));
+    all.push((0, ask_offer(by, &garbage, &offer(51, 6, log.consistency_path(3, 6)))));
+    all.push((0, ask_offer(by, &garbage, &offer(50, 3, vec![]))));
+    all.push((12, ask_offer(by, &garbage, &offer(50, 6, log.consistency_path(3, 6)))));
+    all.push((12, ask_offer(by, &garbage, &offer(49, 6, log.consistency_path(3, 6)))));
+    all.push((11, ask_offer(by, &garbage, &Offer { log_id: garbage.id[..ID.len() + 1].to_vec(), ..offer(50, 6, vec![]) })));
     // A head of no leaves takes none behind it, whatever their size.
-    let nothing = Stored { size: 0, ..stored(LONG, 50, 1, hash) };
+    let nothing = Stored { size: 0, ..stored(by, LONG, 50, 1, hash) };
     for offered in [0, 1, 3, (1 << 32) + 1, LARGEST_SIZE] {
         for path in [vec![], vec![0; 32]] {
             let one = any(offered, path);
-            all.push((if offered == 0 { 6 } else { 12 }, ask_offer(&nothing, &one)));
-            all.push((6, ask_offer(&nothing, &later(one))));
+            all.push((if offered == 0 { 6 } else { 12 }, ask_offer(by, &nothing, &one)));
+            all.push((6, ask_offer(by, &nothing, &later(one))));
         }
     }
-    all.push((12, ask_offer(&nothing, &Offer { timestamp: 49, ..any(3, vec![]) })));
+    all.push((12, ask_offer(by, &nothing, &Offer { timestamp: 49, ..any(3, vec![]) })));
     for place in [0, 1, u64::MAX] {
-        all.push((6, ask_page(&nothing, &PageCall { place, page: vec![], path: vec![] })));
+        all.push((6, ask_page(by, &nothing, &PageCall { place, page: vec![], path: vec![] })));
     }
 
     // Pages.
     let call = PageCall { place: 0, page: log.pages[&0].clone(), path: log.path(0, 7) };
-    let good = Given { record: stored(ID, 50, 7, log.root(7)), call };
-    all.extend(with_faults(&good, &page_faults(), every_pair).iter().map(|(refusal, one)| (*refusal, ask_page(&one.record, &one.call))));
-    all.push((14, ask_page(&Stored::EMPTY, &good.call)));
-    all.push((14, ask_page(&empty, &PageCall { path: vec![1], ..good.call.clone() })));
+    let good = Given { by, record: stored(by, ID, 50, 7, log.root(7)), call };
+    all.extend(
+        with_faults(&good, &page_faults(), every_pair).iter().map(|(refusal, one)| (*refusal, ask_page(one.by, &one.record, &one.call))),
+    );
+    all.push((14, ask_page(by, &Stored::EMPTY, &good.call)));
+    all.push((14, ask_page(by, &empty, &PageCall { path: vec![1], ..good.call.clone() })));
     for (size, place) in [(1, 0), (2, 1), (3, 2)] {
-        all.extend(plain_pages(place, size));
+        all.extend(plain_pages(by, place, size));
     }
 
     // Journals. A head of two nodes has 106 bytes.
@@ -645,14 +678,14 @@ fn rules(every_pair: bool) -> Vec<(u64, Asked)> {
 
     // Disputes. Pairs of faults with heads are many: they are left to the large run.
     let open = |(refusal, one): &(u64, Open)| (*refusal, one.asked());
-    let without = with_faults(&Open::new(&log, 0, &[7]), &faults_without_heads(), every_pair);
+    let without = with_faults(&Open::new(by, &log, 0, &[7]), &faults_without_heads(), every_pair);
     all.extend(without.iter().map(open));
-    let (good, faults) = (Open::new(&log, 0, &[3, 6, 7]), faults_with_heads());
+    let (good, faults) = (Open::new(by, &log, 0, &[3, 6, 7]), faults_with_heads());
     let with = if every_pair { with_faults(&good, &faults, true) } else { with_single_faults(&good, &faults) };
     all.extend(with.iter().map(open));
     for place in [0, 2] {
         for sizes in [&[3][..], &[7], &[3, 3], &[3, 6], &[6, 7], &[3, 3, 6, 6, 7, 7], &[3, 7, 7]] {
-            let good = Open::new(&log, place, sizes);
+            let good = Open::new(by, &log, place, sizes);
             for pair in [130, 131, 500] {
                 all.push((0, Open { pair, ..good.clone() }.asked()));
             }
@@ -662,21 +695,21 @@ fn rules(every_pair: bool) -> Vec<(u64, Asked)> {
         }
     }
     // A count of 65,535 nodes is cut short, also with no room for a pair; the first proof is judged before.
-    let mut cut = Open::new(&log, 0, &[3]);
+    let mut cut = Open::new(by, &log, 0, &[3]);
     cut.one.heads = [&7u64.to_be_bytes()[..], &log.root(7), &[255, 255], &log.consistency_path(3, 7)].concat();
     all.push((2, cut.asked()));
     cut.pair = 0;
     all.push((2, cut.asked()));
     cut.one.root.clear();
     all.push((5, cut.asked()));
-    all.extend(large(every_pair));
+    all.extend(large(by, every_pair));
     all
 }
 
 /// The cases by hand of request 3, full-size logs, as its readings list them: offers to the empty record.
-fn full_size_cases() -> Vec<(u64, Asked)> {
+fn full_size_cases(by: u64) -> Vec<(u64, Asked)> {
     let offer = |size: u64| Offer { log_id: ID.to_vec(), timestamp: 50, size, root: vec![0xa1; 32], path: vec![] };
-    [(0, LARGEST_SIZE), (6, 0)].map(|(refusal, size)| (refusal, ask_offer(&Stored::EMPTY, &offer(size)))).into()
+    [(0, LARGEST_SIZE), (6, 0)].map(|(refusal, size)| (refusal, ask_offer(by, &Stored::EMPTY, &offer(size)))).into()
 }
 
 /// A head held at size 2 with this root: for any next leaf hash the head of size 3 has the
@@ -684,8 +717,8 @@ fn full_size_cases() -> Vec<(u64, Asked)> {
 const HELD: [u8; 32] = [0xa1; 32];
 const NEXT: [u8; 32] = [0xc3; 32];
 
-fn held_at(timestamp: u64) -> Stored {
-    stored(LONG, timestamp, 2, HELD)
+fn held_at(by: u64, timestamp: u64) -> Stored {
+    stored(by, LONG, timestamp, 2, HELD)
 }
 
 fn offered(timestamp: u64, size: u64, root: [u8; 32], path: &[u8]) -> Offer {
@@ -694,8 +727,8 @@ fn offered(timestamp: u64, size: u64, root: [u8; 32], path: &[u8]) -> Offer {
 
 /// The cases by hand of request 4, two heads in one millisecond, as its readings list them:
 /// each alone on a record of timestamp 5.
-fn one_millisecond_cases() -> Vec<(u64, Asked)> {
-    let (a, b, other) = (HELD, node(&HELD, &NEXT), [0xb2; 32]);
+fn one_millisecond_cases(by: u64) -> Vec<(u64, Asked)> {
+    let (a, b, other) = (HELD, node(by, &HELD, &NEXT), [0xb2; 32]);
     let (none, right, wrong) = (&[][..], &NEXT[..], &[0xc2; 32][..]);
     let cases = [
         (0, offered(5, 2, a, none)),
@@ -718,7 +751,7 @@ fn one_millisecond_cases() -> Vec<(u64, Asked)> {
         (6, offered(6, 1, other, none)),
         (10, offered(6, 2, other, &[0xc3; 33])),
     ];
-    cases.map(|(refusal, one)| (refusal, ask_offer(&held_at(5), &one))).into()
+    cases.map(|(refusal, one)| (refusal, ask_offer(by, &held_at(by, 5), &one))).into()
 }
 
 #[derive(Clone, Copy, PartialEq)]
@@ -760,7 +793,7 @@ impl Differs {
     }
 
     /// The offer to a record of this timestamp; none where no timestamp is before or behind it.
-    fn offer(self, held: u64) -> Option<Offer> {
+    fn offer(self, by: u64, held: u64) -> Option<Offer> {
         let timestamp = match self.timestamp {
             Less => held.checked_sub(1)?,
             Equal => held,
@@ -769,7 +802,7 @@ impl Differs {
         let (size, other) = match self.size {
             Less => (1, [0xb2; 32]),
             Equal => (2, [0xb2; 32]),
-            Greater => (3, node(&HELD, &NEXT)),
+            Greater => (3, node(by, &HELD, &NEXT)),
         };
         // To a larger size the right path is the node that the other root is made with; else it is
         // the empty one, and one node is wrong. A smaller size has no right path.
@@ -786,7 +819,7 @@ impl Differs {
 }
 
 /// Every way in which an offer can differ from a head held at this timestamp.
-fn grid(held: u64) -> Vec<(u64, Asked)> {
+fn grid(by: u64, held: u64) -> Vec<(u64, Asked)> {
     let mut all = Vec::new();
     for timestamp in [Less, Equal, Greater] {
         for size in [Less, Equal, Greater] {
@@ -797,7 +830,7 @@ fn grid(held: u64) -> Vec<(u64, Asked)> {
                 }
                 for (is_root, is_log) in [(true, true), (false, true), (true, false), (false, false)] {
                     let one = Differs { timestamp, size, is_root, path, is_log };
-                    all.extend(one.offer(held).map(|offer| (one.number(), ask_offer(&held_at(held), &offer))));
+                    all.extend(one.offer(by, held).map(|offer| (one.number(), ask_offer(by, &held_at(by, held), &offer))));
                 }
             }
         }
@@ -806,58 +839,61 @@ fn grid(held: u64) -> Vec<(u64, Asked)> {
 }
 
 /// Timestamps and sizes far from the held ones, and roots with one bit changed.
-fn far_apart() -> Vec<(u64, Asked)> {
+fn far_apart(by: u64) -> Vec<(u64, Asked)> {
     let mut all = Vec::new();
-    let other = node(&HELD, &NEXT);
+    let other = node(by, &HELD, &NEXT);
     for (held, timestamp) in [(0, u64::MAX), ((1 << 63) - 1, 1 << 63), ((1 << 32) - 1, 1 << 32), (255, 256)] {
         for (held, timestamp, is_later) in [(held, timestamp, true), (timestamp, held, false)] {
-            let record = held_at(held);
+            let record = held_at(by, held);
             let number = |refusal: u64| if is_later { refusal } else { 12 };
-            all.push((number(0), ask_offer(&record, &offered(timestamp, 2, HELD, &[]))));
-            all.push((number(13), ask_offer(&record, &offered(timestamp, 2, NEXT, &[]))));
-            all.push((number(0), ask_offer(&record, &offered(timestamp, 3, other, &NEXT))));
+            all.push((number(0), ask_offer(by, &record, &offered(timestamp, 2, HELD, &[]))));
+            all.push((number(13), ask_offer(by, &record, &offered(timestamp, 2, NEXT, &[]))));
+            all.push((number(0), ask_offer(by, &record, &offered(timestamp, 3, other, &NEXT))));
         }
     }
     for bit in [8, 16, 31, 32, 33, 62, 63] {
-        all.push((12, ask_offer(&held_at(5), &offered(5, 2 + (1 << bit), HELD, &[]))));
+        all.push((12, ask_offer(by, &held_at(by, 5), &offered(5, 2 + (1 << bit), HELD, &[]))));
     }
     for byte in [0, 1, 15, 16, 30, 31] {
         let mut root = HELD;
         root[byte] ^= 0x80 >> (byte % 8);
-        all.push((12, ask_offer(&held_at(5), &offered(5, 2, root, &[]))));
-        all.push((13, ask_offer(&held_at(5), &offered(6, 2, root, &[]))));
+        all.push((12, ask_offer(by, &held_at(by, 5), &offered(5, 2, root, &[]))));
+        all.push((13, ask_offer(by, &held_at(by, 5), &offered(6, 2, root, &[]))));
     }
     all
 }
 
 /// An offer of one size to a record of another, by nodes of one byte, and refused ones.
-fn plain_offers(held: u64, offered: u64) -> Vec<(u64, Asked)> {
-    let as_offer = |one: Proof| {
+fn plain_offers(by: u64, held: u64, offered: u64) -> Vec<(u64, Asked)> {
+    // By another number than the record's it is 16.
+    let as_offer = |refusal: u64, one: Proof| {
+        let refusal = if one.algorithm == by { refusal } else { algorithm::REFUSED };
+        let asked_by = one.algorithm;
         let ([held, size], [held_root, root]) = (one.numbers, one.hashes);
-        let record = Stored { size: held, root: held_root[..].try_into().unwrap(), ..stored(ID, 50, 1, [0; 32]) };
-        ask_offer(&record, &Offer { log_id: ID.to_vec(), timestamp: 51, size, root, path: one.path })
+        let record = Stored { size: held, root: held_root[..].try_into().unwrap(), ..stored(by, ID, 50, 1, [0; 32]) };
+        (refusal, ask_offer(asked_by, &record, &Offer { log_id: ID.to_vec(), timestamp: 51, size, root, path: one.path }))
     };
-    judged(&plain_consistency(held, offered, 5)).into_iter().map(|(refusal, one)| (refusal, as_offer(one))).collect()
+    judged(&plain_consistency(by, held, offered, 5)).into_iter().map(|(refusal, one)| as_offer(refusal, one)).collect()
 }
 
 /// A page asked for at a place of a record's size, by nodes of one byte, and refused ones.
-fn plain_pages(place: u64, size: u64) -> Vec<(u64, Asked)> {
+fn plain_pages(by: u64, place: u64, size: u64) -> Vec<(u64, Asked)> {
     let nodes = vec![[5; 32]; yields::inclusion_count(place, size)];
-    let root = yields::inclusion(digest, &leaf(b""), place, size, &nodes).unwrap();
-    let record = stored(ID, 50, size, root);
+    let root = yields::inclusion(algorithm::of(by), &leaf_hash(algorithm::of(by), b""), place, size, &nodes).unwrap();
+    let record = stored(by, ID, 50, size, root);
     let call = PageCall { place, page: vec![], path: nodes.concat() };
     let (more, fewer) = ([&call.path[..], &[5; 32]].concat(), call.path[32.min(call.path.len())..].to_vec());
     let other = Stored { root: [7; 32], ..record.clone() };
     let mut all = vec![
-        (0, ask_page(&record, &call)),
-        (8, ask_page(&record, &PageCall { page: vec![0], ..call.clone() })),
-        (8, ask_page(&other, &call)),
-        (6, ask_page(&record, &PageCall { place: size, ..call.clone() })),
-        (6, ask_page(&record, &PageCall { place: u64::MAX, ..call.clone() })),
-        (7, ask_page(&record, &PageCall { path: more, ..call.clone() })),
+        (0, ask_page(by, &record, &call)),
+        (8, ask_page(by, &record, &PageCall { page: vec![0], ..call.clone() })),
+        (8, ask_page(by, &other, &call)),
+        (6, ask_page(by, &record, &PageCall { place: size, ..call.clone() })),
+        (6, ask_page(by, &record, &PageCall { place: u64::MAX, ..call.clone() })),
+        (7, ask_page(by, &record, &PageCall { path: more, ..call.clone() })),
     ];
     if !nodes.is_empty() {
-        all.push((7, ask_page(&record, &PageCall { path: fewer, ..call })));
+        all.push((7, ask_page(by, &record, &PageCall { path: fewer, ..call })));
     }
     all
 }
@@ -896,14 +932,14 @@ const DISPUTED: [(u64, [u64; 3]); 4] = [
 
 /// Sizes up to the largest. Their disputes are long, so most faults are left to the
 /// large run, as are sizes next to every power of two.
-fn large(all_wanted: bool) -> Vec<(u64, Asked)> {
-    let mut all = full_size_cases();
-    all.extend(OFFERED.into_iter().flat_map(|(held, offered)| plain_offers(held, offered)));
-    all.extend(ASKED_FOR.into_iter().flat_map(|(place, size)| plain_pages(place, size)));
+fn large(by: u64, all_wanted: bool) -> Vec<(u64, Asked)> {
+    let mut all = full_size_cases(by);
+    all.extend(OFFERED.into_iter().flat_map(|(held, offered)| plain_offers(by, held, offered)));
+    all.extend(ASKED_FOR.into_iter().flat_map(|(place, size)| plain_pages(by, place, size)));
     for (place, sizes) in DISPUTED {
-        let mut log = seven();
+        let mut log = seven(by);
         (log.sizes, log.pages) = (sizes.to_vec(), [(place, b"page".to_vec())].into());
-        let good = Open::new(&log, place, &sizes);
+        let good = Open::new(by, &log, place, &sizes);
         let faults = if all_wanted { faults_with_heads() } else { vec![] };
         all.extend(with_single_faults(&good, &faults).iter().map(|(refusal, one)| (*refusal, one.asked())));
     }
@@ -913,9 +949,72 @@ fn large(all_wanted: bool) -> Vec<(u64, Asked)> {
     let random = &mut Random::new(64);
     for size in next_to_powers(2).into_iter().filter(|size| *size > 40) {
         for place in some_places(size, random) {
-            all.extend(plain_pages(place, size));
+            all.extend(plain_pages(by, place, size));
             if place + 1 < size {
-                all.extend(plain_offers(place + 1, size));
+                all.extend(plain_offers(by, place + 1, size));
+            }
+        }
+    }
+    all
+}
+
+/// Request 7, a second hash: what stands in its readings, and around it. Each list of calls on
+/// one record: all by another number are 16 and leave it as it was.
+fn second_hash_cases(all_wanted: bool) -> Vec<(u64, Asked)> {
+    let mut all = Vec::new();
+    let unknown = if all_wanted { &UNKNOWN[..] } else { &[1, 0x1f0][..] };
+    let unknown = || unknown.iter().copied();
+    for by in KNOWN {
+        let log = seven(by);
+        let first = Offer { log_id: ID.to_vec(), timestamp: 50, size: 3, root: log.root(3).to_vec(), path: vec![] };
+        let later = Offer { timestamp: 51, size: 7, root: log.root(7).to_vec(), path: log.consistency_path(3, 7), ..first.clone() };
+        let bad = Offer { log_id: vec![], root: vec![], path: vec![1], ..first.clone() };
+        let page = PageCall { place: 0, page: log.pages[&0].clone(), path: log.path(0, 3) };
+        let held = stored(by, ID, 50, 3, log.root(3));
+
+        // An empty record looks at no number of its own, and keeps it where an offer is refused.
+        for number in unknown().chain(KNOWN) {
+            let empty = Stored { algorithm: number, ..Stored::EMPTY };
+            all.extend([(0, ask_offer(by, &empty, &first)), (5, ask_offer(by, &empty, &bad)), (14, ask_page(by, &empty, &page))]);
+        }
+        for other in unknown() {
+            let empty = Stored { algorithm: other, ..Stored::EMPTY };
+            for record in [&Stored::EMPTY, &empty, &Stored { held: false, ..held.clone() }] {
+                all.extend([(16, ask_offer(other, record, &first)), (16, ask_offer(other, record, &bad))]);
+                all.push((16, ask_page(other, record, &page)));
+            }
+        }
+
+        // Right calls on the record, then the same and worse by other numbers; then a record that holds one of these.
+        all.extend([(0, ask_offer(by, &held, &later)), (0, ask_offer(by, &held, &first)), (0, ask_page(by, &held, &page))]);
+        let far = PageCall { place: 3, path: vec![1], ..page.clone() };
+        let another = Offer { log_id: b"a lag".to_vec(), ..later.clone() };
+        for other in unknown().chain([algorithm::other(by)]) {
+            all.extend([&first, &later, &another, &bad].map(|offer| (16, ask_offer(other, &held, offer))));
+            all.extend([&page, &far].map(|page| (16, ask_page(other, &held, page))));
+            let record = Stored { algorithm: other, ..held.clone() };
+            let numbers = [by, other, by ^ 1];
+            let numbers = numbers.into_iter().filter(|number| algorithm::hash(other).is_none() || *number != other);
+            for number in numbers {
+                all.extend([(16, ask_offer(number, &record, &first)), (16, ask_page(number, &record, &page))]);
+            }
+        }
+    }
+    // A head and its pages by the one hash, offered and asked for by the other: nothing of a record
+    // tells, so a first head is accepted, the next one is 8, and so is each page.
+    for by in KNOWN {
+        let (log, other) = (seven(by), algorithm::other(by));
+        let held = stored(other, ID, 50, 3, log.root(3));
+        let next = Offer { log_id: ID.to_vec(), timestamp: 51, size: 7, root: log.root(7).to_vec(), path: log.consistency_path(3, 7) };
+        all.push((8, ask_offer(other, &held, &next)));
+        for place in [0, 2] {
+            let page = PageCall { place, page: log.pages[&place].clone(), path: log.path(place, 3) };
+            all.push((8, ask_page(other, &held, &page)));
+            for sizes in [&[3][..], &[7], &[3, 6], &[3, 6, 7]] {
+                let right = Open::new(by, &log, place, sizes);
+                all.push((0, right.asked()));
+                all.push((8, Open { by: other, ..right.clone() }.asked()));
+                all.extend(unknown().map(|by| (16, Open { by, ..right.clone() }.asked())));
             }
         }
     }
@@ -923,35 +1022,47 @@ fn large(all_wanted: bool) -> Vec<(u64, Asked)> {
 }
 
 fn cases(requests: &mut Requests) {
-    for (_, (name, words)) in rules(false) {
+    for (_, (name, words)) in rules(SHA256, false).into_iter().chain(some_rules(SM3)).chain(second_hash_cases(false)) {
         requests.ask(name, &words);
     }
     let random = &mut Random::new(14);
-    for kind in KINDS {
-        let calls = Server::random(digest, kind, 12, random).calls(12, 0, random);
-        ask_all(requests, ask_list(digest, &calls, random));
+    for (by, kind) in KNOWN.into_iter().flat_map(|by| KINDS.map(|kind| (by, kind))) {
+        let calls = Server::random(algorithm::hash, by, kind, 12, random).calls(12, 0, random);
+        let calls = with_strays(by, calls, random);
+        ask_all(requests, ask_list(algorithm::hash, &calls, random));
     }
-    lines_that_are_no_request(requests, "dispute");
+    lines_that_are_no_request(requests, "dispute 0");
     for line in [
         "offer",
-        "offer 0 127*00 0 0 0 32*00 x0102 0 1 32*01",
-        "offer 0 127*00 0 0 0 32*00 x0102 0 1 32*01 x x",
-        "offer 2 127*00 0 0 0 32*00 x0102 0 1 32*01 x",
-        "offer x 127*00 0 0 0 32*00 x0102 0 1 32*01 x",
-        "offer 0 126*00 0 0 0 32*00 x0102 0 1 32*01 x",
-        "offer 0 128*00 0 0 0 32*00 x0102 0 1 32*01 x",
-        "offer 0 127*00 0 0 0 31*00 x0102 0 1 32*01 x",
-        "offer 0 127*00 0 0 0 33*00 x0102 0 1 32*01 x",
-        "offer 0 127*00 x 0 0 32*00 x0102 0 1 32*01 x",
-        "offer 0 127*00 18446744073709551616 0 0 32*00 x0102 0 1 32*01 x",
-        "page 0 127*00 0 0 0 32*00 0 x",
-        "page 0 127*00 0 0 0 32*00 0 x x x",
-        "page 2 127*00 0 0 0 32*00 0 x x",
-        "page 0 127*00 0 0 0 32*00 x x x",
-        "dispute x 0 x 1 32*01 x x x",
-        "dispute x 0 x 1 32*01 x x x 130",
-        "dispute x 0 x 1 32*01 x x x 130*00 x",
-        "dispute x x x 1 32*01 x x x 130*00",
+        "offer 0 0 127*00 0 0 0 32*00 x0102 0 1 32*01 x",
+        "offer 0 0 0 127*00 0 0 0 32*00 x0102 0 1 32*01",
+        "offer 0 0 0 127*00 0 0 0 32*00 x0102 0 1 32*01 x x",
+        "offer 0 2 0 127*00 0 0 0 32*00 x0102 0 1 32*01 x",
+        "offer 1 2 0 127*00 0 0 0 32*00 x0102 0 1 32*01 x",
+        "offer 0 x 0 127*00 0 0 0 32*00 x0102 0 1 32*01 x",
+        "offer x 0 0 127*00 0 0 0 32*00 x0102 0 1 32*01 x",
+        "offer 0 0 x 127*00 0 0 0 32*00 x0102 0 1 32*01 x",
+        "offer 0 0 0 126*00 0 0 0 32*00 x0102 0 1 32*01 x",
+        "offer 1 0 0 128*00 0 0 0 32*00 x0102 0 1 32*01 x",
+        "offer 0 0 0 127*00 0 0 0 31*00 x0102 0 1 32*01 x",
+        "offer 0 0 0 127*00 0 0 0 33*00 x0102 0 1 32*01 x",
+        "offer 0 0 0 127*00 x 0 0 32*00 x0102 0 1 32*01 x",
+        "offer 0 0 0 127*00 18446744073709551616 0 0 32*00 x0102 0 1 32*01 x",
+        "offer 0 0 18446744073709551616 127*00 0 0 0 32*00 x0102 0 1 32*01 x",
+        "offer 18446744073709551616 0 0 127*00 0 0 0 32*00 x0102 0 1 32*01 x",
+        "page 0 0 127*00 0 0 0 32*00 0 x x",
+        "page 0 0 0 127*00 0 0 0 32*00 0 x",
+        "page 0 0 0 127*00 0 0 0 32*00 0 x x x",
+        "page 0 2 0 127*00 0 0 0 32*00 0 x x",
+        "page x 0 0 127*00 0 0 0 32*00 0 x x",
+        "page 1 0 0 127*00 0 0 0 32*00 x x x",
+        "dispute x 0 x 1 32*01 x x x 130*00",
+        "dispute 0 x 0 x 1 32*01 x x x",
+        "dispute 0 x 0 x 1 32*01 x x x 130",
+        "dispute 1 x 0 x 1 32*01 x x x 130*00 x",
+        "dispute 0 x x x 1 32*01 x x x 130*00",
+        "dispute x x 0 x 1 32*01 x x x 130*00",
+        "append 0 50*00 0 1 32*01 x",
         "append 50*00 0 1 32*01",
         "append 50*00 0 1 32*01 x x",
         "append 50*00 x 1 32*01 x",
@@ -961,29 +1072,39 @@ fn cases(requests: &mut Requests) {
     }
 }
 
+/// Rules without those about timestamps, sizes and log ids alone, which no hash has a part in.
+fn some_rules(by: u64) -> Vec<(u64, Asked)> {
+    let plain = |words: &[Word]| words.iter().filter_map(Word::as_number).all(|number| number < 1 << 32);
+    rules(by, false).into_iter().filter(|(refusal, asked)| [0, 8, 16].contains(refusal) && asked.0 != "append" && plain(&asked.1)).collect()
+}
+
 /// Lists against every kind of server, small logs and large ones; then the
-/// longest pages that a request holds.
+/// longest pages that a request holds. By both hashes, or by the one and the other in turn.
 fn full(requests: &mut Requests) {
-    for (_, (name, words)) in rules(true) {
+    for (_, (name, words)) in KNOWN.into_iter().flat_map(|by| rules(by, by == SHA256)).chain(second_hash_cases(true)) {
         requests.ask(name, &words);
     }
     let random = &mut Random::new(127);
     for turn in 0..150 {
-        for kind in KINDS {
+        for (at, kind) in KINDS.into_iter().enumerate() {
+            let by = KNOWN[(turn + at) % 2];
             let most = if turn % 5 == 0 { LARGEST_SIZE >> random.below(64) } else { random.between(1, 40) };
-            let calls = Server::random(digest, kind, most, random).calls(30, 0, random);
-            ask_all(requests, ask_list(digest, &calls, random));
+            let calls = Server::random(algorithm::hash, by, kind, most, random).calls(30, 0, random);
+            let calls = with_strays(by, calls, random);
+            ask_all(requests, ask_list(algorithm::hash, &calls, random));
         }
     }
-    for length in [65_536, 500_000, 1_000_000] {
+    for (length, by) in [65_536, 500_000, 1_000_000].into_iter().flat_map(|length| KNOWN.map(|by| (length, by))) {
         let page = vec![0x61; length];
-        let leaf = leaf(&page);
-        let record = stored(ID, 1, 1, leaf);
-        let mut words = asked(&record);
-        words.extend([number(0), repeated(length, 0x61), bytes(&[])]);
-        requests.ask("page", &words);
+        let leaf = leaf_hash(algorithm::of(by), &page);
+        let record = stored(by, ID, 1, 1, leaf);
+        for asked_by in [by, algorithm::other(by), 1] {
+            let mut words = [vec![number(asked_by)], asked(&record)].concat();
+            words.extend([number(0), repeated(length, 0x61), bytes(&[])]);
+            requests.ask("page", &words);
+        }
         for (second, byte) in [(length, 0x61), (length, 0x62), (length - 1, 0x61)] {
-            let mut words = vec![repeated(length, 0x61), number(0), bytes(&[]), number(1), bytes(&leaf), bytes(&[])];
+            let mut words = vec![number(by), repeated(length, 0x61), number(0), bytes(&[]), number(1), bytes(&leaf), bytes(&[])];
             words.extend([repeated(second, byte), bytes(&[]), repeated(130, 0)]);
             requests.ask("dispute", &words);
         }
@@ -992,19 +1113,21 @@ fn full(requests: &mut Requests) {
 
 // Random requests.
 
-fn random_calls(random: &mut Random) -> Vec<Call> {
+/// A list mostly by one number, with some calls by another or by none.
+fn random_calls(random: &mut Random) -> Vec<(u64, Call)> {
     let most = match random.below(4) {
         0 => LARGEST_SIZE >> random.below(64),
         _ => random.between(1, 40),
     };
     let kind = *random.pick(&[Kind::Honest, Kind::Forgetful, Kind::Forging, Kind::Forging]);
-    let count = random.between(3, 16) as usize;
-    Server::random(digest, kind, most, random).calls(count, 0, random)
+    let (by, count) = (algorithm::some(random), random.between(3, 16) as usize);
+    let calls = Server::random(algorithm::hash, by, kind, most, random).calls(count, 0, random);
+    with_strays(by, calls, random)
 }
 
 fn random_list(random: &mut Random) -> Vec<Asked> {
     let calls = random_calls(random);
-    ask_list(digest, &calls, random)
+    ask_list(algorithm::hash, &calls, random)
 }
 
 /// One request of a list, by its entry.
@@ -1018,19 +1141,25 @@ fn random_of(entry: &str, random: &mut Random) -> Vec<Word> {
     }
 }
 
-/// The record of a request, with none, one or two fields of any value.
+/// The record of a request, with none, one or two fields of any value; at times the number of
+/// the call too.
 fn random_record(words: &mut [Word], random: &mut Random) {
     for _ in 0..random.below(3) {
         let any = random.draw() >> random.below(64);
-        match random.below(8) {
-            0 => words[0] = number(random.below(2)),
-            1 => words[1] = bytes(&random.bytes(LONGEST_ID)),
-            2 => words[2] = number(*random.pick(&[0, 1, 2, 3, 126, 127, 128, 1 << 63, u64::MAX])),
-            3 => words[2] = number(any),
-            4 => words[3] = number(any),
-            5 => words[4] = number(*random.pick(&[0, 1, 2, 1 << 32, (1 << 32) + 1, LARGEST_SIZE])),
-            6 => words[4] = number(any),
-            _ => words[5] = bytes(&random.hash()),
+        match random.below(10) {
+            0 => words[1] = number(random.below(2)),
+            1 => words[2] = number(algorithm::mostly(algorithm::some(random), random)),
+            2 => words[3] = bytes(&random.bytes(LONGEST_ID)),
+            3 => words[4] = number(*random.pick(&[0, 1, 2, 3, 126, 127, 128, 1 << 63, u64::MAX])),
+            4 => words[4] = number(any),
+            5 => words[5] = number(any),
+            6 => words[6] = number(*random.pick(&[0, 1, 2, 1 << 32, (1 << 32) + 1, LARGEST_SIZE])),
+            7 => words[6] = number(any),
+            8 => words[7] = bytes(&random.hash()),
+            _ => {
+                let by = algorithm::mostly(algorithm::some(random), random);
+                (words[0], words[2]) = (number(by), number(by));
+            }
         }
     }
 }
@@ -1041,11 +1170,11 @@ fn random_offer(random: &mut Random) -> Vec<Word> {
     let mut words = random_of("offer", random);
     random_record(&mut words, random);
     if random.one_in(3) {
-        words[3] = words[7].clone();
+        words[5] = words[9].clone();
         match random.below(4) {
-            0 if words[9].as_hash().is_some() => (words[4], words[5]) = (words[8].clone(), words[9].clone()),
-            1 => (words[4], words[5]) = (words[8].clone(), bytes(&random.hash())),
-            2 => words[3] = number(words[7].as_number().unwrap() ^ 1),
+            0 if words[11].as_hash().is_some() => (words[6], words[7]) = (words[10].clone(), words[11].clone()),
+            1 => (words[6], words[7]) = (words[10].clone(), bytes(&random.hash())),
+            2 => words[5] = number(words[9].as_number().unwrap() ^ 1),
             _ => (),
         }
     }
@@ -1069,7 +1198,7 @@ fn random_append(random: &mut Random) -> Vec<Word> {
 #[cfg(test)]
 mod tests {
     use super::*;
-    use crate::carry::weak;
+    use crate::algorithm::weak;
     use crate::words::{read_line, write_line};
     use std::collections::BTreeMap;
 
@@ -1081,42 +1210,43 @@ mod tests {
         read_line(&line).unwrap().1
     }
 
-    fn answer(h: HashFunction, asked: &Asked) -> Vec<Word> {
+    fn answer(hashes: Hashes, asked: &Asked) -> Vec<Word> {
         let words = read(asked);
         match asked.0 {
-            "offer" => offer(h, &words),
-            "page" => page(h, &words),
+            "offer" => offer(hashes, &words),
+            "page" => page(hashes, &words),
             "append" => append(&words),
-            _ => dispute(h, &words),
+            _ => dispute(hashes, &words),
         }
         .expect("a request")
     }
 
     #[test]
     fn rules_give_their_numbers() {
-        for (at, (refusal, asked)) in rules(true).iter().enumerate() {
-            let answer = answer(digest, asked);
-            assert_eq!(answer[0], number(*refusal), "{at}: {asked:?}");
-            let words = read(asked);
+        let all = KNOWN.into_iter().flat_map(|by| rules(by, true)).chain(second_hash_cases(true));
+        for (at, (refusal, asked)) in all.enumerate() {
+            let answer = answer(algorithm::hash, &asked);
+            assert_eq!(answer[0], number(refusal), "{at}: {asked:?}");
+            let words = read(&asked);
             match asked.0 {
-                "offer" if *refusal == 0 => {
-                    let id = words[6].as_bytes().unwrap();
+                "offer" if refusal == 0 => {
+                    let id = words[8].as_bytes().unwrap();
                     let padded: Vec<u8> = id.iter().copied().chain([0; LONGEST_ID]).take(LONGEST_ID).collect();
-                    let after = [number(1), bytes(&padded), number(id.len() as u64), words[7].clone(), words[8].clone(), words[9].clone()];
-                    assert_eq!(answer[1..], after);
+                    let record = [number(1), words[0].clone(), bytes(&padded), number(id.len() as u64)];
+                    assert_eq!(answer[1..], [&record[..], &words[9..12]].concat());
                 }
                 "append" => {
                     let used = words[1].as_number().unwrap();
                     let more = 42 + words[4].as_bytes().unwrap().len() as u64;
-                    assert_eq!(answer[1], number(if *refusal == 0 { used + more } else { 0 }));
-                    assert_eq!(answer[2] == words[0], *refusal != 0);
+                    assert_eq!(answer[1], number(if refusal == 0 { used + more } else { 0 }));
+                    assert_eq!(answer[2] == words[0], refusal != 0);
                 }
                 "dispute" => {
-                    assert_eq!(answer[1], number((*refusal == 0) as u64));
-                    assert_eq!(answer[2], words[8]);
+                    assert_eq!(answer[1], number((refusal == 0) as u64));
+                    assert_eq!(answer[2], words[9]);
                 }
                 // A refusal, and every page call: the record as it was.
-                _ => assert_eq!(answer[1..], words[..6]),
+                _ => assert_eq!(answer[1..], words[1..8]),
             }
         }
     }
@@ -1125,7 +1255,7 @@ mod tests {
     #[test]
     fn grids_are_whole() {
         for (held, expected) in [(5, 84), (0, 56), (u64::MAX, 56)] {
-            let all = grid(held);
+            let all = grid(SM3, held);
             assert_eq!(all.len(), expected);
             let mut lines: Vec<String> = all.iter().map(|(_, asked)| format!("{asked:?}")).collect();
             lines.sort();
@@ -1141,21 +1271,26 @@ mod tests {
 
     type Counts = BTreeMap<(&'static str, u64, u64), usize>;
 
-    fn count(h: HashFunction, all: &[Asked], counts: &mut Counts) {
+    fn count(hashes: Hashes, all: &[Asked], counts: &mut Counts) {
         for asked in all {
-            let answer = answer(h, asked);
+            let answer = answer(hashes, asked);
             let outcome = if asked.0 == "dispute" { answer[1].as_number().unwrap() } else { 0 };
             *counts.entry((asked.0, answer[0].as_number().unwrap(), outcome)).or_default() += 1;
         }
     }
 
-    fn lists(h: HashFunction, turns: usize, tries: usize, counts: &mut Counts) {
+    fn some_list(hashes: Hashes, kind: Kind, tries: usize, random: &mut Random) -> Vec<Asked> {
+        let (by, most) = (algorithm::some(random), random.between(1, 40));
+        let calls = Server::random(hashes, by, kind, most, random).calls(30, tries, random);
+        let calls = with_strays(by, calls, random);
+        ask_list(hashes, &calls, random)
+    }
+
+    fn lists(hashes: Hashes, turns: usize, tries: usize, counts: &mut Counts) {
         let random = &mut Random::new(12);
         for _ in 0..turns {
             for kind in KINDS {
-                let most = random.between(1, 40);
-                let calls = Server::random(h, kind, most, random).calls(30, tries, random);
-                count(h, &ask_list(h, &calls, random), counts);
+                count(hashes, &some_list(hashes, kind, tries, random), counts);
             }
         }
     }
@@ -1163,11 +1298,11 @@ mod tests {
     /// An offer to a head that is held, by its number and its words: the timestamp, size
     /// and root held against those offered.
     fn against_held(words: &[Word], refusal: u64) -> Option<&'static str> {
-        if words[0] != number(1) {
+        if words[1] != number(1) {
             return None;
         }
         let order = |held: usize, offered: usize| words[offered].as_number().cmp(&words[held].as_number());
-        match (refusal, order(3, 7), order(4, 8), words[5] == words[9]) {
+        match (refusal, order(5, 9), order(6, 10), words[7] == words[11]) {
             (12, Less, _, _) => Some("12, earlier"),
             (12, Equal, Greater, false) => Some("12, equal, a larger size"),
             (12, Equal, Greater, true) => Some("12, equal, a larger size, the held root"),
@@ -1202,13 +1337,11 @@ mod tests {
         let random = &mut Random::new(15);
         let mut counts: [BTreeMap<&str, usize>; 3] = Default::default();
         for _ in 0..100 {
-            for (h, counts) in [digest as HashFunction, weak].into_iter().zip(&mut counts) {
+            for (hashes, counts) in [algorithm::hash as Hashes, weak].into_iter().zip(&mut counts) {
                 for kind in KINDS {
-                    let most = random.between(1, 40);
-                    let calls = Server::random(h, kind, most, random).calls(30, 20, random);
-                    let all = ask_list(h, &calls, random);
+                    let all = some_list(hashes, kind, 20, random);
                     let offers = all.iter().filter(|asked| asked.0 == "offer");
-                    for kind in offers.filter_map(|asked| against_held(&read(asked), answer(h, asked)[0].as_number().unwrap())) {
+                    for kind in offers.filter_map(|asked| against_held(&read(asked), answer(hashes, asked)[0].as_number().unwrap())) {
                         *counts.entry(kind).or_default() += 1;
                     }
                 }
@@ -1216,7 +1349,7 @@ mod tests {
         }
         for _ in 0..3000 {
             let asked = ("offer", random_offer(random));
-            let refusal = answer(digest, &asked)[0].as_number().unwrap();
+            let refusal = answer(algorithm::hash, &asked)[0].as_number().unwrap();
             against_held(&read(&asked), refusal).into_iter().for_each(|kind| *counts[2].entry(kind).or_default() += 1);
         }
         println!("{counts:?}");
@@ -1231,11 +1364,11 @@ mod tests {
     #[test]
     fn every_outcome_is_met() {
         let mut counts = Counts::new();
-        lists(digest, 100, 0, &mut counts);
-        println!("SHA-256: {counts:?}");
-        let offers = [0, 5, 6, 7, 8, 10, 11, 12, 13].map(|refusal| ("offer", refusal, 0));
-        let pages = [0, 6, 7, 8, 10, 14].map(|refusal| ("page", refusal, 0));
-        let refused = [2, 5, 6, 7, 8, 9, 10].map(|refusal| ("dispute", refusal, 0));
+        lists(algorithm::hash, 100, 0, &mut counts);
+        println!("SHA-256 and SM3: {counts:?}");
+        let offers = [0, 5, 6, 7, 8, 10, 11, 12, 13, 16].map(|refusal| ("offer", refusal, 0));
+        let pages = [0, 6, 7, 8, 10, 14, 16].map(|refusal| ("page", refusal, 0));
+        let refused = [2, 5, 6, 7, 8, 9, 10, 16].map(|refusal| ("dispute", refusal, 0));
         let appends = [0, 5, 9, 10].map(|refusal| ("append", refusal, 0));
         let mut expected: Vec<_> = offers.into_iter().chain(pages).chain(refused).chain(appends).chain([("dispute", 0, 1)]).collect();
         expected.sort();

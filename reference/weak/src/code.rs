@@ -1,5 +1,6 @@
 //! The entries that are compared, in the reference's types.
 
+use crate::given::hashes;
 use reference::auditor::{Dispute, Offer, PageCall, Settled, Stored};
 use reference::carry::{Carried, Compared};
 use reference::growing::Growing;
@@ -14,6 +15,11 @@ pub const COMPARED: &[&str] = &[
     "octets::put_number",
     "octets::be8",
     "octets::width_of",
+    "tree::by_number::root",
+    "tree::by_number::inclusion_path",
+    "tree::by_number::consistency_path",
+    "tree::by_number::inclusion_verdict",
+    "tree::by_number::consistency_verdict",
     "tree::build::bad_leaves",
     "tree::build::root_of",
     "tree::build::root",
@@ -33,6 +39,8 @@ pub const COMPARED: &[&str] = &[
     "growing::add::add_leaves",
     "growing::root",
     "growing::root_into",
+    "carry::by_number::carry",
+    "carry::by_number::compare",
     "carry::forward::carry",
     "carry::compare::compare",
     "auditor::empty",
@@ -42,6 +50,21 @@ pub const COMPARED: &[&str] = &[
     #[cfg(journal)]
     "auditor::journal::append",
 ];
+
+/// How a function is called: by the number of a hash, any number; or by the hash that has it.
+#[derive(Clone, Copy, Debug)]
+pub enum By {
+    Number(u64),
+    Hash(u64),
+}
+
+/// Each way that there is for a number.
+pub fn ways(algorithm: u64) -> Vec<By> {
+    match hashes(algorithm) {
+        Some(_) => vec![By::Number(algorithm), By::Hash(algorithm)],
+        None => vec![By::Number(algorithm)],
+    }
+}
 
 /// An inclusion proof at the old size and a consistency proof from it.
 #[derive(Clone, Debug)]
@@ -82,26 +105,27 @@ pub trait Code: Sync {
     fn subproof_count(&self, first: u64, second: u64, known: bool) -> usize;
     fn node_at(&self, joined: &[u8], at: usize) -> Hash;
     fn equals(&self, hash: &Hash, bytes: &[u8]) -> bool;
-    fn yielded_root(&self, leaf: &Hash, place: u64, size: u64, path: &[u8]) -> Hash;
-    fn yielded_roots(&self, known_root: &Hash, first: u64, second: u64, known: bool, path: &[u8]) -> (Hash, Hash);
+    /// By a hash alone, which is that of this number; so is each `algorithm` down to the root by value.
+    fn yielded_root(&self, algorithm: u64, leaf: &Hash, place: u64, size: u64, path: &[u8]) -> Hash;
+    fn yielded_roots(&self, algorithm: u64, known_root: &Hash, first: u64, second: u64, known: bool, path: &[u8]) -> (Hash, Hash);
+    fn root_of(&self, algorithm: u64, leaves: &[u8]) -> (u64, Hash);
     fn bad_leaves(&self, leaves: &[u8]) -> bool;
-    fn root_of(&self, leaves: &[u8]) -> (u64, Hash);
-    fn root(&self, leaves: &[u8], out: &mut [u8]) -> Wrote;
-    fn inclusion_path(&self, leaves: &[u8], place: u64, out: &mut [u8]) -> Wrote;
-    fn consistency_path(&self, leaves: &[u8], first: u64, out: &mut [u8]) -> Wrote;
-    fn inclusion_verdict(&self, leaf: &[u8], place: u64, size: u64, root: &[u8], path: &[u8]) -> u64;
-    fn consistency_verdict(&self, first: u64, second: u64, old: &[u8], new: &[u8], path: &[u8]) -> u64;
-    fn new_tree(&self) -> Growing;
-    fn add_page(&self, tree: &Growing, page: &[u8]) -> (u64, Growing);
-    fn add_leaves(&self, tree: &Growing, leaves: &[u8]) -> (u64, Growing);
-    fn growing_root(&self, tree: &Growing) -> Hash;
-    fn growing_root_into(&self, tree: &Growing, out: &mut [u8]) -> Wrote;
-    fn carry(&self, one: &Step, out: &mut [u8], pair: &mut [u8]) -> Result<Carried, u64>;
-    fn compare(&self, one: &Two, pair: &mut [u8]) -> Result<Compared, u64>;
+    fn root(&self, by: By, leaves: &[u8], out: &mut [u8]) -> Wrote;
+    fn inclusion_path(&self, by: By, leaves: &[u8], place: u64, out: &mut [u8]) -> Wrote;
+    fn consistency_path(&self, by: By, leaves: &[u8], first: u64, out: &mut [u8]) -> Wrote;
+    fn inclusion_verdict(&self, by: By, leaf: &[u8], place: u64, size: u64, root: &[u8], path: &[u8]) -> u64;
+    fn consistency_verdict(&self, by: By, first: u64, second: u64, old: &[u8], new: &[u8], path: &[u8]) -> u64;
+    fn new_tree(&self, algorithm: u64) -> (u64, Growing);
+    fn add_page(&self, algorithm: u64, tree: &Growing, page: &[u8]) -> (u64, Growing);
+    fn add_leaves(&self, algorithm: u64, tree: &Growing, leaves: &[u8]) -> (u64, Growing);
+    fn growing_root(&self, algorithm: u64, tree: &Growing) -> (u64, Hash);
+    fn growing_root_into(&self, algorithm: u64, tree: &Growing, out: &mut [u8]) -> Wrote;
+    fn carry(&self, by: By, one: &Step, out: &mut [u8], pair: &mut [u8]) -> Result<Carried, u64>;
+    fn compare(&self, by: By, one: &Two, pair: &mut [u8]) -> Result<Compared, u64>;
     fn empty(&self) -> Stored;
-    fn offer(&self, record: &Stored, one: &Offer) -> (u64, Stored);
-    fn ask(&self, record: &Stored, one: &PageCall) -> (u64, Stored);
-    fn dispute(&self, one: &Dispute, pair: &mut [u8]) -> Settled;
+    fn offer(&self, algorithm: u64, record: &Stored, one: &Offer) -> (u64, Stored);
+    fn ask(&self, algorithm: u64, record: &Stored, one: &PageCall) -> (u64, Stored);
+    fn dispute(&self, algorithm: u64, one: &Dispute, pair: &mut [u8]) -> Settled;
     #[cfg(journal)]
     fn append(&self, journal: &mut [u8], used: usize, size: u64, root: &[u8], path: &[u8]) -> Wrote;
 }

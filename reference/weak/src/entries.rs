@@ -1,9 +1,20 @@
 // Included in each variant: its entries, in the reference's types. Names of crates are the variant's own.
 
+use crate::code::By;
+
 pub struct Entries;
 
 fn digest(bytes: &[u8; 32]) -> hash::Digest {
     hash::Digest { bytes: *bytes }
+}
+
+/// The hash of a number that has one.
+fn hash_of(number: u64) -> hash::Algorithm {
+    match number {
+        0x00 => hash::Algorithm::Sha256,
+        0xf0 => hash::Algorithm::Sm3,
+        _ => panic!("no hash has the number {number}"),
+    }
 }
 
 fn width(count: usize) -> octets::Width {
@@ -18,12 +29,16 @@ fn wrote(built: tree::build::Built) -> crate::code::Wrote {
     }
 }
 
+fn hashed(of: hash::Hashed) -> (u64, [u8; 32]) {
+    (of.number.into(), of.digest.bytes)
+}
+
 fn growing_tree(of: &reference::growing::Growing) -> growing::Growing {
-    growing::Growing { hashes: of.hashes.map(|bytes| hash::Digest { bytes }), count: of.count }
+    growing::Growing { algorithm: of.algorithm, hashes: of.hashes.map(|bytes| hash::Digest { bytes }), count: of.count }
 }
 
 fn tree_of(of: growing::Growing) -> reference::growing::Growing {
-    reference::growing::Growing { hashes: of.hashes.map(|hash| hash.bytes), count: of.count }
+    reference::growing::Growing { algorithm: of.algorithm, hashes: of.hashes.map(|hash| hash.bytes), count: of.count }
 }
 
 fn grown(of: growing::Grown) -> (u64, reference::growing::Growing) {
@@ -31,12 +46,21 @@ fn grown(of: growing::Grown) -> (u64, reference::growing::Growing) {
 }
 
 fn record(of: &reference::auditor::Stored) -> auditor::Record {
-    auditor::Record { held: of.held, id: of.id, idlen: of.id_length as usize, timestamp: of.timestamp, size: of.size, root: of.root }
+    auditor::Record {
+        held: of.held,
+        algorithm: of.algorithm,
+        id: of.id,
+        idlen: of.id_length as usize,
+        timestamp: of.timestamp,
+        size: of.size,
+        root: of.root,
+    }
 }
 
 fn stored(of: auditor::Record) -> reference::auditor::Stored {
     reference::auditor::Stored {
         held: of.held,
+        algorithm: of.algorithm,
         id: of.id,
         id_length: of.idlen as u64,
         timestamp: of.timestamp,
@@ -98,79 +122,114 @@ impl crate::code::Code for Entries {
         tree::nodes::equals(digest(hash), bytes)
     }
 
-    fn yielded_root(&self, leaf: &[u8; 32], place: u64, size: u64, path: &[u8]) -> [u8; 32] {
-        tree::yields::yielded_root(digest(leaf), place, size, path).bytes
+    fn yielded_root(&self, algorithm: u64, leaf: &[u8; 32], place: u64, size: u64, path: &[u8]) -> [u8; 32] {
+        tree::yields::yielded_root(hash_of(algorithm), digest(leaf), place, size, path).bytes
     }
 
-    fn yielded_roots(&self, known_root: &[u8; 32], first: u64, second: u64, known: bool, path: &[u8]) -> ([u8; 32], [u8; 32]) {
-        let roots = tree::yields::yielded_roots(digest(known_root), first, second, known, path);
+    fn yielded_roots(
+        &self,
+        algorithm: u64,
+        known_root: &[u8; 32],
+        first: u64,
+        second: u64,
+        known: bool,
+        path: &[u8],
+    ) -> ([u8; 32], [u8; 32]) {
+        let roots = tree::yields::yielded_roots(hash_of(algorithm), digest(known_root), first, second, known, path);
         (roots.old.bytes, roots.new.bytes)
+    }
+
+    fn root_of(&self, algorithm: u64, leaves: &[u8]) -> (u64, [u8; 32]) {
+        hashed(tree::build::root_of(hash_of(algorithm), leaves))
     }
 
     fn bad_leaves(&self, leaves: &[u8]) -> bool {
         tree::build::bad_leaves(leaves)
     }
 
-    fn root_of(&self, leaves: &[u8]) -> (u64, [u8; 32]) {
-        let hashed = tree::build::root_of(leaves);
-        (hashed.number.into(), hashed.digest.bytes)
+    fn root(&self, by: By, leaves: &[u8], out: &mut [u8]) -> crate::code::Wrote {
+        wrote(match by {
+            By::Number(number) => tree::by_number::root(number, leaves, out),
+            By::Hash(number) => tree::build::root(hash_of(number), leaves, out),
+        })
     }
 
-    fn root(&self, leaves: &[u8], out: &mut [u8]) -> crate::code::Wrote {
-        wrote(tree::build::root(leaves, out))
+    fn inclusion_path(&self, by: By, leaves: &[u8], place: u64, out: &mut [u8]) -> crate::code::Wrote {
+        wrote(match by {
+            By::Number(number) => tree::by_number::inclusion_path(number, leaves, place, out),
+            By::Hash(number) => tree::build::inclusion_path(hash_of(number), leaves, place, out),
+        })
     }
 
-    fn inclusion_path(&self, leaves: &[u8], place: u64, out: &mut [u8]) -> crate::code::Wrote {
-        wrote(tree::build::inclusion_path(leaves, place, out))
+    fn consistency_path(&self, by: By, leaves: &[u8], first: u64, out: &mut [u8]) -> crate::code::Wrote {
+        wrote(match by {
+            By::Number(number) => tree::by_number::consistency_path(number, leaves, first, out),
+            By::Hash(number) => tree::build::consistency_path(hash_of(number), leaves, first, out),
+        })
     }
 
-    fn consistency_path(&self, leaves: &[u8], first: u64, out: &mut [u8]) -> crate::code::Wrote {
-        wrote(tree::build::consistency_path(leaves, first, out))
+    fn inclusion_verdict(&self, by: By, leaf: &[u8], place: u64, size: u64, root: &[u8], path: &[u8]) -> u64 {
+        let number = match by {
+            By::Number(number) => tree::by_number::inclusion_verdict(number, leaf, place, size, root, path),
+            By::Hash(number) => tree::verdict::inclusion_verdict(hash_of(number), leaf, place, size, root, path),
+        };
+        number.into()
     }
 
-    fn inclusion_verdict(&self, leaf: &[u8], place: u64, size: u64, root: &[u8], path: &[u8]) -> u64 {
-        tree::verdict::inclusion_verdict(leaf, place, size, root, path).into()
+    fn consistency_verdict(&self, by: By, first: u64, second: u64, old: &[u8], new: &[u8], path: &[u8]) -> u64 {
+        let number = match by {
+            By::Number(number) => tree::by_number::consistency_verdict(number, first, second, old, new, path),
+            By::Hash(number) => tree::verdict::consistency_verdict(hash_of(number), first, second, old, new, path),
+        };
+        number.into()
     }
 
-    fn consistency_verdict(&self, first: u64, second: u64, old: &[u8], new: &[u8], path: &[u8]) -> u64 {
-        tree::verdict::consistency_verdict(first, second, old, new, path).into()
+    fn new_tree(&self, algorithm: u64) -> (u64, reference::growing::Growing) {
+        grown(growing::new(algorithm))
     }
 
-    fn new_tree(&self) -> reference::growing::Growing {
-        tree_of(growing::new())
+    fn add_page(&self, algorithm: u64, tree: &reference::growing::Growing, page: &[u8]) -> (u64, reference::growing::Growing) {
+        grown(growing::add::add_page(algorithm, growing_tree(tree), page))
     }
 
-    fn add_page(&self, tree: &reference::growing::Growing, page: &[u8]) -> (u64, reference::growing::Growing) {
-        grown(growing::add::add_page(growing_tree(tree), page))
+    fn add_leaves(&self, algorithm: u64, tree: &reference::growing::Growing, leaves: &[u8]) -> (u64, reference::growing::Growing) {
+        grown(growing::add::add_leaves(algorithm, growing_tree(tree), leaves))
     }
 
-    fn add_leaves(&self, tree: &reference::growing::Growing, leaves: &[u8]) -> (u64, reference::growing::Growing) {
-        grown(growing::add::add_leaves(growing_tree(tree), leaves))
+    fn growing_root(&self, algorithm: u64, tree: &reference::growing::Growing) -> (u64, [u8; 32]) {
+        hashed(growing::root(algorithm, growing_tree(tree)))
     }
 
-    fn growing_root(&self, tree: &reference::growing::Growing) -> [u8; 32] {
-        growing::root(growing_tree(tree)).bytes
+    fn growing_root_into(&self, algorithm: u64, tree: &reference::growing::Growing, out: &mut [u8]) -> crate::code::Wrote {
+        wrote(growing::root_into(algorithm, growing_tree(tree), out))
     }
 
-    fn growing_root_into(&self, tree: &reference::growing::Growing, out: &mut [u8]) -> crate::code::Wrote {
-        wrote(growing::root_into(growing_tree(tree), out))
-    }
-
-    fn carry(&self, one: &crate::code::Step, out: &mut [u8], pair: &mut [u8]) -> Result<reference::carry::Carried, u64> {
+    fn carry(&self, by: By, one: &crate::code::Step, out: &mut [u8], pair: &mut [u8]) -> Result<reference::carry::Carried, u64> {
         use carry::forward::Carried;
-        match carry::forward::carry(
-            &one.leaf, one.place, one.first, one.second, &one.old, &one.new, &one.path, &one.proof, out, pair,
-        ) {
+        let crate::code::Step { leaf, place, first, second, old, new, path, proof } = one;
+        let carried = match by {
+            By::Number(number) => {
+                carry::by_number::carry(number, leaf, *place, *first, *second, old, new, path, proof, out, pair)
+            }
+            By::Hash(number) => {
+                carry::forward::carry(hash_of(number), leaf, *place, *first, *second, old, new, path, proof, out, pair)
+            }
+        };
+        match carried {
             Carried::Path(length) => Ok(reference::carry::Carried::Path(length)),
             Carried::Collision => Ok(reference::carry::Carried::Collision),
             Carried::Refused(number) => Err(number.into()),
         }
     }
 
-    fn compare(&self, one: &crate::code::Two, pair: &mut [u8]) -> Result<reference::carry::Compared, u64> {
+    fn compare(&self, by: By, one: &crate::code::Two, pair: &mut [u8]) -> Result<reference::carry::Compared, u64> {
         use carry::compare::Compared;
-        let ([leaf1, leaf2], [path1, path2]) = (&one.leaves, &one.paths);
-        match carry::compare::compare(one.place, one.size, &one.root, leaf1, path1, leaf2, path2, pair) {
+        let crate::code::Two { place, size, root, leaves: [leaf1, leaf2], paths: [path1, path2] } = one;
+        let compared = match by {
+            By::Number(number) => carry::by_number::compare(number, *place, *size, root, leaf1, path1, leaf2, path2, pair),
+            By::Hash(number) => carry::compare::compare(hash_of(number), *place, *size, root, leaf1, path1, leaf2, path2, pair),
+        };
+        match compared {
             Compared::Same => Ok(reference::carry::Compared::Same),
             Compared::Collision => Ok(reference::carry::Compared::Collision),
             Compared::Refused(number) => Err(number.into()),
@@ -181,19 +240,29 @@ impl crate::code::Code for Entries {
         stored(auditor::empty())
     }
 
-    fn offer(&self, before: &reference::auditor::Stored, one: &reference::auditor::Offer) -> (u64, reference::auditor::Stored) {
-        answered(auditor::head::offer(record(before), &one.log_id, one.timestamp, one.size, &one.root, &one.path))
+    fn offer(
+        &self,
+        algorithm: u64,
+        before: &reference::auditor::Stored,
+        one: &reference::auditor::Offer,
+    ) -> (u64, reference::auditor::Stored) {
+        answered(auditor::head::offer(algorithm, record(before), &one.log_id, one.timestamp, one.size, &one.root, &one.path))
     }
 
-    fn ask(&self, before: &reference::auditor::Stored, one: &reference::auditor::PageCall) -> (u64, reference::auditor::Stored) {
-        answered(auditor::page::ask(record(before), one.place, &one.page, &one.path))
+    fn ask(
+        &self,
+        algorithm: u64,
+        before: &reference::auditor::Stored,
+        one: &reference::auditor::PageCall,
+    ) -> (u64, reference::auditor::Stored) {
+        answered(auditor::page::ask(algorithm, record(before), one.place, &one.page, &one.path))
     }
 
-    fn dispute(&self, one: &reference::auditor::Dispute, pair: &mut [u8]) -> reference::auditor::Settled {
+    fn dispute(&self, algorithm: u64, one: &reference::auditor::Dispute, pair: &mut [u8]) -> reference::auditor::Settled {
         use auditor::dispute::Settled;
         let first = &one.first;
         match auditor::dispute::dispute(
-            &first.page, first.place, &first.path, one.size, &one.root, &one.heads, &one.second_page, &one.second_path, pair,
+            algorithm, &first.page, first.place, &first.path, one.size, &one.root, &one.heads, &one.second_page, &one.second_path, pair,
         ) {
             Settled::Same => reference::auditor::Settled::Same,
             Settled::Nodes => reference::auditor::Settled::Nodes,

@@ -1,16 +1,17 @@
 //! Each call is made on both sides, from the same lent bytes: the answers and all lent bytes must be
-//! the same. What kind of call it was is counted by the reference's answer.
+//! the same. What kind of call it was is counted by the reference's answer, for each hash by itself.
 
-use crate::code::{Code, Step, Two, Wrote};
+use crate::code::{ways, Code, Step, Two, Wrote};
 use crate::forge::LONGEST;
-use crate::given::weak;
+use crate::given::hashes;
+use reference::algorithm::{KNOWN, REFUSED, SHA256, SM3};
 use reference::auditor::{self, Dispute, Offer, PageCall, Settled, Stored};
 use reference::carry::{self, consistency_places, full_subtree, inclusion_places, parts, Carried, Compared, Known, Leaves, PAIR};
 use reference::growing::{self, Call, Growing, Grown, LEVELS};
 use reference::item::LONGEST_ITEM;
 use reference::proofs::near_power;
 use reference::random::Random;
-use reference::tree::{self, hashes, leaf_hash, Hash, LARGEST_SIZE, MOST_LEAVES};
+use reference::tree::{self, hashes as nodes_of, leaf_hash, Hash, HashFunction, LARGEST_SIZE, MOST_LEAVES};
 use reference::verdict::{self, Consistency, Inclusion};
 use reference::yields;
 use std::cell::Cell;
@@ -40,10 +41,16 @@ fn tried<T>(call: impl FnOnce() -> T) -> Option<T> {
     answer
 }
 
+/// The column of kinds in which no hash is.
+const NEITHER: usize = 2;
+
 pub struct Hold<'a> {
     pub code: &'a dyn Code,
     pub calls: u64,
-    pub kinds: BTreeMap<String, u64>,
+    /// How often each kind came up: in calls by SHA-256, by SM3, and by neither.
+    pub kinds: BTreeMap<String, [u64; 3]>,
+    /// Which of the three the call at hand is.
+    column: usize,
     /// Calls on which the two sides disagree; the first few are shown.
     pub failed: u64,
     pub shown: Vec<String>,
@@ -106,18 +113,48 @@ fn levels_up(count: u64, more: u64) -> &'static str {
     }
 }
 
-fn known_inclusion(place: u64, size: u64, leaf: &[u8], path: &[u8]) -> Known {
+fn known_inclusion(h: HashFunction, place: u64, size: u64, leaf: &[u8], path: &[u8]) -> Known {
     let leaf: Hash = leaf.try_into().unwrap();
-    Known::new(weak, inclusion_places(place, 0..size), &hashes(path).unwrap()).with(place..place + 1, &leaf)
+    Known::new(h, inclusion_places(place, 0..size), &nodes_of(path).unwrap()).with(place..place + 1, &leaf)
 }
 
 impl<'a> Hold<'a> {
     pub fn new(code: &'a dyn Code) -> Hold<'a> {
-        Hold { code, calls: 0, kinds: BTreeMap::new(), failed: 0, shown: Vec::new() }
+        Hold { code, calls: 0, kinds: BTreeMap::new(), column: NEITHER, failed: 0, shown: Vec::new() }
     }
 
     fn kind(&mut self, entry: &str, what: impl AsRef<str>) {
-        *self.kinds.entry(format!("{entry}: {}", what.as_ref())).or_default() += 1;
+        self.kinds.entry(format!("{entry}: {}", what.as_ref())).or_default()[self.column] += 1;
+    }
+
+    /// The hash that a call by this number goes by; its kinds are counted there.
+    fn under(&mut self, algorithm: u64) -> Option<HashFunction> {
+        self.column = match algorithm {
+            SHA256 => 0,
+            SM3 => 1,
+            _ => NEITHER,
+        };
+        hashes(algorithm)
+    }
+
+    /// 16, where the two hashes would give these numbers.
+    fn first_of_all(&mut self, entry: &str, number_by: impl Fn(u64) -> u64) {
+        let numbers = KNOWN.map(number_by);
+        self.kind(entry, "16");
+        let what = if numbers.contains(&0) { "16 where nothing else is wrong".to_string() } else { format!("16 before {}", numbers[0]) };
+        self.kind(entry, what);
+    }
+
+    /// 16 for a call by one number over what holds another, or over what holds a number that no hash has.
+    fn beside_the_held(&mut self, entry: &str, algorithm: u64, held: u64) {
+        let what = match (hashes(algorithm), hashes(held)) {
+            (Some(_), Some(_)) => "16 for the other hash's number",
+            (None, Some(_)) => "16 for a number that no hash has",
+            (Some(_), None) => "16 by a hash's number, where one that no hash has is held",
+            (None, None) if algorithm == held => "16 by the number that is held, which no hash has",
+            (None, None) => "16 by a number that no hash has, where another such is held",
+        };
+        self.kind(entry, what);
     }
 
     fn same<T: PartialEq + Debug>(&mut self, entry: &str, expected: T, found: Option<T>, of: impl Debug) {
@@ -136,31 +173,42 @@ impl<'a> Hold<'a> {
 
     // Carrying.
 
-    pub fn carry(&mut self, one: &Step, out: &[u8], pair: &[u8]) {
+    pub fn carry(&mut self, algorithm: u64, one: &Step, out: &[u8], pair: &[u8]) {
         let old = Inclusion { leaf: &one.leaf, place: one.place, size: one.first, root: &one.old, path: &one.path };
-        let (mut out_after, mut pair_after) = (out.to_vec(), pair.to_vec());
-        let answer = carry::carry(weak, &old, one.second, &one.new, &one.proof, &mut out_after, &mut pair_after);
-        let code = self.code;
-        let found = tried(|| {
+        let expected = |algorithm: u64| {
             let (mut out, mut pair) = (out.to_vec(), pair.to_vec());
-            (code.carry(one, &mut out, &mut pair), out, pair)
-        });
-        match &answer {
-            Ok(Carried::Path(length)) => {
-                assert!(pair_after == pair && out_after[*length..] == out[*length..]);
+            let carry = |h| carry::carry(h, &old, one.second, &one.new, &one.proof, &mut out, &mut pair);
+            (hashes(algorithm).ok_or(REFUSED).and_then(carry), out, pair)
+        };
+        let whole = expected(algorithm);
+        let (answer, out_after, pair_after) = &whole;
+        match (answer, self.under(algorithm)) {
+            (Ok(Carried::Path(length)), Some(_)) => {
+                assert!(*pair_after == pair && out_after[*length..] == out[*length..]);
                 self.carried(one, *length, out.len());
             }
-            Ok(Carried::Collision) => {
-                assert!(out_after == out && pair_after[PAIR..] == pair[PAIR..]);
-                is_collision(&pair_after);
-                self.carried_collision(one, out.len(), pair.len());
+            (Ok(Carried::Collision), Some(h)) => {
+                assert!(*out_after == out && pair_after[PAIR..] == pair[PAIR..]);
+                is_collision(h, pair_after);
+                self.carried_collision(h, one, out.len(), pair.len());
             }
-            Err(number) => {
-                assert!(out_after == out && pair_after == pair, "a refusal changes no byte");
-                self.carry_refused(one, *number, out.len(), pair.len());
+            (Err(number), h) => {
+                assert!(*out_after == out && *pair_after == pair, "a refusal changes no byte");
+                match h {
+                    Some(h) => self.carry_refused(h, one, *number, out.len(), pair.len()),
+                    None => self.first_of_all("carrying", |known| expected(known).0.err().unwrap_or(0)),
+                }
             }
+            (Ok(_), None) => unreachable!("no hash"),
         }
-        self.same("carrying", (answer, out_after, pair_after), found, (one, out, pair));
+        let code = self.code;
+        for by in ways(algorithm) {
+            let found = tried(|| {
+                let (mut out, mut pair) = (out.to_vec(), pair.to_vec());
+                (code.carry(by, one, &mut out, &mut pair), out, pair)
+            });
+            self.same("carrying", whole.clone(), found, (by, one, out, pair));
+        }
     }
 
     fn carried(&mut self, one: &Step, length: usize, lent: usize) {
@@ -181,18 +229,18 @@ impl<'a> Hold<'a> {
         }
     }
 
-    fn carry_levels(one: &Step) -> (Levels, bool) {
-        let by_inclusion = known_inclusion(one.place, one.first, &one.leaf, &one.path);
-        let nodes = hashes(&one.proof).unwrap();
-        let by_consistency = Known::new(weak, consistency_places(one.first, 0..one.second, true), &nodes);
+    fn carry_levels(h: HashFunction, one: &Step) -> (Levels, bool) {
+        let by_inclusion = known_inclusion(h, one.place, one.first, &one.leaf, &one.path);
+        let nodes = nodes_of(&one.proof).unwrap();
+        let by_consistency = Known::new(h, consistency_places(one.first, 0..one.second, true), &nodes);
         let subtree = full_subtree(one.place, one.first);
         let levels = Levels::of(&by_inclusion, &by_consistency, 0..one.first, &subtree);
         let is_in_subtree = by_inclusion.hash(&subtree) != by_consistency.hash(&subtree);
         (levels, is_in_subtree)
     }
 
-    fn carried_collision(&mut self, one: &Step, lent: usize, pair: usize) {
-        let (levels, is_in_subtree) = Self::carry_levels(one);
+    fn carried_collision(&mut self, h: HashFunction, one: &Step, lent: usize, pair: usize) {
+        let (levels, is_in_subtree) = Self::carry_levels(h, one);
         let at = levels.topmost().unwrap();
         let last = levels.0.len() - 1;
         if at == 0 && last > 0 {
@@ -221,9 +269,9 @@ impl<'a> Hold<'a> {
         self.kind("carrying", format!("a collision, pair buffer {}", room(pair, PAIR)));
     }
 
-    fn carry_refused(&mut self, one: &Step, number: u64, lent: usize, pair: usize) {
+    fn carry_refused(&mut self, h: HashFunction, one: &Step, number: u64, lent: usize, pair: usize) {
         let old = Inclusion { leaf: &one.leaf, place: one.place, size: one.first, root: &one.old, path: &one.path };
-        if verdict::inclusion(weak, &old) != 0 {
+        if verdict::inclusion(h, &old) != 0 {
             return self.kind("carrying", format!("refused with {number} for the inclusion proof"));
         }
         if number != 9 {
@@ -239,48 +287,59 @@ impl<'a> Hold<'a> {
             _ => "the pair buffer",
         };
         self.kind("carrying", format!("refused with 9 for {what}"));
-        if one.first < one.second && !one.first.is_power_of_two() && Self::carry_levels(one).0.topmost().is_some() {
+        if one.first < one.second && !one.first.is_power_of_two() && Self::carry_levels(h, one).0.topmost().is_some() {
             self.kind("carrying", format!("a collision that is refused with 9 for {what}"));
         }
     }
 
     // Comparing.
 
-    pub fn compare(&mut self, one: &Two, pair: &[u8]) {
+    pub fn compare(&mut self, algorithm: u64, one: &Two, pair: &[u8]) {
         let ([leaf, leaf_two], [path, path_two]) = (&one.leaves, &one.paths);
         let first = Inclusion { leaf, place: one.place, size: one.size, root: &one.root, path };
-        let mut after = pair.to_vec();
-        let answer = carry::compare(weak, &first, leaf_two, path_two, &mut after);
-        let code = self.code;
-        let found = tried(|| {
+        let expected = |algorithm: u64| {
             let mut pair = pair.to_vec();
-            (code.compare(one, &mut pair), pair)
-        });
-        match &answer {
-            Ok(Compared::Same) => {
-                assert_eq!(after, pair);
+            let compare = |h| carry::compare(h, &first, leaf_two, path_two, &mut pair);
+            (hashes(algorithm).ok_or(REFUSED).and_then(compare), pair)
+        };
+        let whole = expected(algorithm);
+        let (answer, after) = &whole;
+        match (answer, self.under(algorithm)) {
+            (Ok(Compared::Same), Some(_)) => {
+                assert_eq!(*after, pair);
                 self.kind("comparing", if path.len() == LONGEST { "the same, over 64 nodes" } else { "the same" });
             }
-            Ok(Compared::Collision) => {
+            (Ok(Compared::Collision), Some(h)) => {
                 assert_eq!(after[PAIR..], pair[PAIR..]);
-                is_collision(&after);
-                self.compared_collision(one, pair.len());
+                is_collision(h, after);
+                self.compared_collision(h, one, pair.len());
             }
-            Err(number) => {
-                assert_eq!(after, pair, "a refusal changes no byte");
-                let what = match (verdict::inclusion(weak, &first), number) {
+            (Err(number), Some(h)) => {
+                assert_eq!(*after, pair, "a refusal changes no byte");
+                let what = match (verdict::inclusion(h, &first), number) {
                     (0, 9) => "the pair buffer",
                     (0, _) => "the second proof",
                     _ => "the first proof",
                 };
                 self.kind("comparing", format!("refused with {number} for {what}"));
             }
+            (_, None) => {
+                assert_eq!(*after, pair, "a refusal changes no byte");
+                self.first_of_all("comparing", |known| expected(known).0.err().unwrap_or(0));
+            }
         }
-        self.same("comparing", (answer, after), found, (one, pair));
+        let code = self.code;
+        for by in ways(algorithm) {
+            let found = tried(|| {
+                let mut pair = pair.to_vec();
+                (code.compare(by, one, &mut pair), pair)
+            });
+            self.same("comparing", whole.clone(), found, (by, one, pair));
+        }
     }
 
-    fn compared_collision(&mut self, one: &Two, pair: usize) {
-        let known = [0, 1].map(|which| known_inclusion(one.place, one.size, &one.leaves[which], &one.paths[which]));
+    fn compared_collision(&mut self, h: HashFunction, one: &Two, pair: usize) {
+        let known = [0, 1].map(|which| known_inclusion(h, one.place, one.size, &one.leaves[which], &one.paths[which]));
         let levels = Levels::of(&known[0], &known[1], 0..one.size, &(one.place..one.place + 1));
         let at = levels.topmost().unwrap();
         let last = levels.0.len() - 1;
@@ -308,30 +367,39 @@ impl<'a> Hold<'a> {
 
     // Disputes.
 
-    pub fn dispute(&mut self, one: &Dispute, pair: &[u8]) {
-        let mut after = pair.to_vec();
-        let answer = auditor::dispute(weak, one, &mut after);
-        let code = self.code;
-        let found = tried(|| {
+    pub fn dispute(&mut self, algorithm: u64, one: &Dispute, pair: &[u8]) {
+        let expected = |algorithm: u64| {
             let mut pair = pair.to_vec();
-            (code.dispute(one, &mut pair), pair)
-        });
-        match answer {
-            Settled::Nodes => {
+            (auditor::dispute(hashes, algorithm, one, &mut pair), pair)
+        };
+        let (answer, after) = expected(algorithm);
+        let h = self.under(algorithm);
+        match (answer, h) {
+            (Settled::Nodes, Some(h)) => {
                 assert_eq!(after[PAIR..], pair[PAIR..]);
-                is_collision(&after);
+                is_collision(h, &after);
                 self.kind("dispute", format!("a collision, pair buffer {}", room(pair.len(), PAIR)));
             }
             _ => assert_eq!(after, pair, "only a collision is written"),
         }
-        if let Settled::Pages = answer {
+        if let (Settled::Pages, Some(h)) = (answer, h) {
             let pages = [&one.first.page, &one.second_page];
-            assert!(pages[0] != pages[1] && leaf_hash(weak, pages[0]) == leaf_hash(weak, pages[1]));
+            assert!(pages[0] != pages[1] && leaf_hash(h, pages[0]) == leaf_hash(h, pages[1]));
         }
-        for what in Self::ends(one, answer, pair.len()) {
-            self.kind("dispute", what);
+        match h {
+            Some(h) => Self::ends(h, one, answer, pair.len()).iter().for_each(|what| self.kind("dispute", what)),
+            None => self.first_of_all("dispute", |known| match expected(known).0 {
+                Settled::Refused(number) => number,
+                _ => 0,
+            }),
         }
+        let code = self.code;
+        let found = tried(|| {
+            let mut pair = pair.to_vec();
+            (code.dispute(algorithm, one, &mut pair), pair)
+        });
         let of = (
+            algorithm,
             &one.first.place,
             Short(&one.first.page),
             &one.first.path,
@@ -345,17 +413,17 @@ impl<'a> Hold<'a> {
     }
 
     /// Where a dispute ends, and how: over a head, in the comparison, or before both.
-    fn ends(one: &Dispute, answer: Settled, pair: usize) -> Vec<String> {
+    fn ends(h: HashFunction, one: &Dispute, answer: Settled, pair: usize) -> Vec<String> {
         let refused = |number: u64, by: &str| vec![format!("refused with {number} for {by}")];
         for (page, by) in [(&one.first.page, "the first page"), (&one.second_page, "the second page")] {
             if page.len() > LONGEST_ITEM {
                 return refused(1, by);
             }
         }
-        let leaf = leaf_hash(weak, &one.first.page);
+        let leaf = leaf_hash(h, &one.first.page);
         let place = one.first.place;
         let (mut size, mut root, mut path) = (one.size, one.root.clone(), one.first.path.clone());
-        match verdict::inclusion(weak, &Inclusion { leaf: &leaf, place, size, root: &root, path: &path }) {
+        match verdict::inclusion(h, &Inclusion { leaf: &leaf, place, size, root: &root, path: &path }) {
             0 => (),
             number => return refused(number, "the first proof"),
         }
@@ -363,7 +431,7 @@ impl<'a> Hold<'a> {
         for (at, (new_size, new_root, step)) in heads.iter().enumerate() {
             let mut lent = [0; LONGEST];
             let old = Inclusion { leaf: &leaf, place, size, root: &root, path: &path };
-            match carry::carry(weak, &old, *new_size, new_root, step, &mut lent, &mut vec![0; pair]) {
+            match carry::carry(h, &old, *new_size, new_root, step, &mut lent, &mut vec![0; pair]) {
                 Err(number) => return refused(number, "a head"),
                 Ok(Carried::Collision) => {
                     return vec![match at {
@@ -404,33 +472,45 @@ impl<'a> Hold<'a> {
         }
     }
 
-    pub fn inclusion(&mut self, leaf: &[u8], place: u64, size: u64, root: &[u8], path: &[u8]) {
-        let number = verdict::inclusion(weak, &Inclusion { leaf, place, size, root, path });
-        let code = self.code;
-        let found = tried(|| code.inclusion_verdict(leaf, place, size, root, path));
-        self.verdict("inclusion verdict", number, size);
-        self.same("inclusion verdict", number, found, (leaf, place, size, root, path));
-        if let (Ok(leaf), Some(nodes)) = (<&Hash>::try_from(leaf), hashes(path)) {
+    pub fn inclusion(&mut self, algorithm: u64, leaf: &[u8], place: u64, size: u64, root: &[u8], path: &[u8]) {
+        let expected =
+            |algorithm: u64| hashes(algorithm).map_or(REFUSED, |h| verdict::inclusion(h, &Inclusion { leaf, place, size, root, path }));
+        let (h, number, code) = (self.under(algorithm), expected(algorithm), self.code);
+        match h {
+            Some(_) => self.verdict("inclusion verdict", number, size),
+            None => self.first_of_all("inclusion verdict", expected),
+        }
+        for by in ways(algorithm) {
+            let found = tried(|| code.inclusion_verdict(by, leaf, place, size, root, path));
+            self.same("inclusion verdict", number, found, (by, leaf, place, size, root, path));
+        }
+        if let (Some(h), Ok(leaf), Some(nodes)) = (h, <&Hash>::try_from(leaf), nodes_of(path)) {
             if number == 0 || number == 8 {
-                let expected = yields::inclusion(weak, leaf, place, size, &nodes).unwrap();
-                self.same("yielded root", expected, tried(|| code.yielded_root(leaf, place, size, path)), (leaf, place, size, path));
+                let expected = yields::inclusion(h, leaf, place, size, &nodes).unwrap();
+                let found = tried(|| code.yielded_root(algorithm, leaf, place, size, path));
+                self.same("yielded root", expected, found, (algorithm, leaf, place, size, path));
             }
         }
         self.counts(place, size);
     }
 
-    pub fn consistency(&mut self, first: u64, second: u64, old: &[u8], new: &[u8], path: &[u8]) {
+    pub fn consistency(&mut self, algorithm: u64, first: u64, second: u64, old: &[u8], new: &[u8], path: &[u8]) {
         let proof = Consistency { first, second, first_root: old, second_root: new, path };
-        let number = verdict::consistency(weak, &proof);
-        let code = self.code;
-        let found = tried(|| code.consistency_verdict(first, second, old, new, path));
-        self.verdict("consistency verdict", number, second);
-        self.same("consistency verdict", number, found, (first, second, old, new, path));
-        if let (Ok(old), Some(nodes)) = (<&Hash>::try_from(old), hashes(path)) {
+        let expected = |algorithm: u64| hashes(algorithm).map_or(REFUSED, |h| verdict::consistency(h, &proof));
+        let (h, number, code) = (self.under(algorithm), expected(algorithm), self.code);
+        match h {
+            Some(_) => self.verdict("consistency verdict", number, second),
+            None => self.first_of_all("consistency verdict", expected),
+        }
+        for by in ways(algorithm) {
+            let found = tried(|| code.consistency_verdict(by, first, second, old, new, path));
+            self.same("consistency verdict", number, found, (by, first, second, old, new, path));
+        }
+        if let (Some(h), Ok(old), Some(nodes)) = (h, <&Hash>::try_from(old), nodes_of(path)) {
             if (number == 0 || number == 8) && first < second {
-                let expected = yields::consistency(weak, first, second, old, &nodes).unwrap();
-                let found = tried(|| code.yielded_roots(old, first, second, true, path));
-                self.same("yielded roots", expected, found, (old, first, second, path));
+                let expected = yields::consistency(h, first, second, old, &nodes).unwrap();
+                let found = tried(|| code.yielded_roots(algorithm, old, first, second, true, path));
+                self.same("yielded roots", expected, found, (algorithm, old, first, second, path));
             }
         }
         self.counts(first, second);
@@ -446,34 +526,40 @@ impl<'a> Hold<'a> {
         }
     }
 
-    fn built(
+    /// What is written into a buffer, or a refusal; the code's in each of its ways. `behind`: what one hash would be refused with behind 16.
+    #[allow(clippy::too_many_arguments)]
+    fn built<By: Copy + Debug>(
         &mut self,
         entry: &str,
         out: &[u8],
         of: impl Debug,
         expected: impl Fn(&mut [u8]) -> Wrote,
-        found: impl Fn(&mut [u8]) -> Wrote,
+        behind: impl Fn(u64) -> u64,
+        ways: &[By],
+        found: impl Fn(By, &mut [u8]) -> Wrote,
     ) {
         let mut after = out.to_vec();
         let answer = expected(&mut after);
-        let found = tried(|| {
-            let mut out = out.to_vec();
-            (found(&mut out), out)
-        });
-        self.kind(
-            entry,
-            match answer {
-                Ok(length) => {
-                    assert_eq!(after[length..], out[length..]);
-                    format!("written, buffer {}", room(out.len(), length))
+        match answer {
+            Ok(length) => {
+                assert_eq!(after[length..], out[length..]);
+                self.kind(entry, format!("written, buffer {}", room(out.len(), length)));
+            }
+            Err(number) => {
+                assert_eq!(after, out, "a refusal changes no byte");
+                match number {
+                    REFUSED => self.first_of_all(entry, behind),
+                    _ => self.kind(entry, format!("refused with {number}")),
                 }
-                Err(number) => {
-                    assert_eq!(after, out, "a refusal changes no byte");
-                    format!("refused with {number}")
-                }
-            },
-        );
-        self.same(entry, (answer, after), found, (of, out));
+            }
+        }
+        for by in ways {
+            let found = tried(|| {
+                let mut out = out.to_vec();
+                (found(*by, &mut out), out)
+            });
+            self.same(entry, (answer, after.clone()), found, (by, &of, out));
+        }
     }
 
     /// By the length alone.
@@ -485,26 +571,41 @@ impl<'a> Hold<'a> {
             _ if count == MOST_LEAVES => "false of 2^32 hashes",
             _ => "false of fewer hashes",
         };
+        self.column = NEITHER;
         self.kind("bad leaves", what);
         let code = self.code;
         self.same("bad leaves", rest != 0 || count > MOST_LEAVES, tried(|| code.bad_leaves(leaves)), leaves.len());
     }
 
     /// All builders over one list.
-    pub fn builders(&mut self, leaves: &[u8], place: u64, first: u64, out: &[u8]) {
+    pub fn builders(&mut self, algorithm: u64, leaves: &[u8], place: u64, first: u64, out: &[u8]) {
         let code = self.code;
         self.bad_leaves(leaves);
-        self.built("root", out, leaves, |out| tree::build_root(weak, leaves, out), |out| code.root(leaves, out));
-        let path = |out: &mut [u8]| tree::build_path(weak, leaves, place, out);
-        self.built("inclusion path", out, leaves, path, |out| code.inclusion_path(leaves, place, out));
-        let path = |out: &mut [u8]| tree::build_consistency_path(weak, leaves, first, out);
-        self.built("consistency path", out, leaves, path, |out| code.consistency_path(leaves, first, out));
-        let expected = hashes(leaves).map_or((10, [0; 32]), |list| (0, tree::root(weak, &list)));
-        self.same("root by value", expected, tried(|| code.root_of(leaves)), leaves);
+        self.under(algorithm);
+        // Each builder by a number: the reference's, and what it gives behind 16.
+        let by = |algorithm: u64, build: &dyn Fn(HashFunction, &mut [u8]) -> Wrote, out: &mut [u8]| {
+            hashes(algorithm).ok_or(REFUSED).and_then(|h| build(h, out))
+        };
+        let behind = |known: u64, build: &dyn Fn(HashFunction, &mut [u8]) -> Wrote| by(known, build, &mut out.to_vec()).err().unwrap_or(0);
+        let ways = &ways(algorithm)[..];
+        let root: &dyn Fn(HashFunction, &mut [u8]) -> Wrote = &|h, out| tree::build_root(h, leaves, out);
+        let (expected, after_16) = (|out: &mut [u8]| by(algorithm, root, out), |known| behind(known, root));
+        self.built("root", out, leaves, expected, after_16, ways, |by, out| code.root(by, leaves, out));
+        let path: &dyn Fn(HashFunction, &mut [u8]) -> Wrote = &|h, out| tree::build_path(h, leaves, place, out);
+        let (expected, after_16) = (|out: &mut [u8]| by(algorithm, path, out), |known| behind(known, path));
+        self.built("inclusion path", out, leaves, expected, after_16, ways, |by, out| code.inclusion_path(by, leaves, place, out));
+        let path: &dyn Fn(HashFunction, &mut [u8]) -> Wrote = &|h, out| tree::build_consistency_path(h, leaves, first, out);
+        let (expected, after_16) = (|out: &mut [u8]| by(algorithm, path, out), |known| behind(known, path));
+        self.built("consistency path", out, leaves, expected, after_16, ways, |by, out| code.consistency_path(by, leaves, first, out));
+        if let Some(h) = hashes(algorithm) {
+            let expected = nodes_of(leaves).map_or((10, [0; 32]), |list| (0, tree::root(h, &list)));
+            self.same("root by value", expected, tried(|| code.root_of(algorithm, leaves)), (algorithm, leaves));
+        }
     }
 
     /// Byte strings and numbers.
     pub fn octets(&mut self, bytes: &[u8], out: &[u8], random: &mut Random) {
+        self.column = NEITHER;
         let code = self.code;
         let mut other = bytes.to_vec();
         match (random.below(4), random.below(bytes.len() as u64 + 1) as usize) {
@@ -573,99 +674,125 @@ impl<'a> Hold<'a> {
 
     // The growing tree.
 
-    pub fn new_tree(&mut self) {
+    /// Made by any number: 16, and a tree that holds the number all the same, where no hash has it.
+    pub fn new_tree(&mut self, algorithm: u64) {
+        self.under(algorithm);
+        let expected = Growing::make(hashes, algorithm);
+        self.kind("new tree", expected.0.to_string());
         let code = self.code;
-        self.same("new tree", Growing::NEW, tried(|| code.new_tree()), ());
+        self.same("new tree", expected, tried(|| code.new_tree(algorithm)), algorithm);
     }
 
-    pub fn add_page(&mut self, tree: &Growing, page: &[u8]) -> Growing {
+    pub fn add_page(&mut self, algorithm: u64, tree: &Growing, page: &[u8]) -> Growing {
         let code = self.code;
-        let found = tried(|| code.add_page(tree, page));
-        self.added("growing page", tree, page, 1, tree.page(weak, page), found)
+        let expected = tree.page(hashes, algorithm, page);
+        let found = tried(|| code.add_page(algorithm, tree, page));
+        let behind = growing::page_refusal(page.len() as u64, tree.count);
+        self.added("growing page", algorithm, tree, page, 1, behind, expected, found)
     }
 
-    pub fn add_leaves(&mut self, tree: &Growing, joined: &[u8]) -> Growing {
+    pub fn add_leaves(&mut self, algorithm: u64, tree: &Growing, joined: &[u8]) -> Growing {
         let code = self.code;
-        let found = tried(|| code.add_leaves(tree, joined));
-        self.added("growing leaves", tree, joined, joined.len() as u64 / 32, tree.leaves(weak, joined), found)
+        let expected = tree.leaves(hashes, algorithm, joined);
+        let found = tried(|| code.add_leaves(algorithm, tree, joined));
+        let behind = growing::leaves_refusal(joined.len() as u64, tree.count);
+        self.added("growing leaves", algorithm, tree, joined, joined.len() as u64 / 32, behind, expected, found)
     }
 
-    /// A call that would add so many leaves: the tree after it.
+    /// A call that would add so many leaves: the tree after it. `behind`: what it would be refused with behind 16.
+    #[allow(clippy::too_many_arguments)]
     fn added(
         &mut self,
         entry: &str,
+        algorithm: u64,
         tree: &Growing,
         given: &[u8],
         more: u64,
+        behind: u64,
         (number, after): (u64, Growing),
         found: Option<(u64, Growing)>,
     ) -> Growing {
         assert!(number == 0 || after == *tree, "a refusal changes no tree");
+        self.under(algorithm);
         let left = LARGEST_SIZE - tree.count;
         let before = if more > left { " before 6" } else { "" };
-        let what = match number {
-            0 if more == 0 && left == 0 => "no leaf taken by a full tree".to_string(),
-            0 if more > 0 && more == left => "taken, the last leaf".to_string(),
-            0 => format!("taken, {}", levels_up(tree.count, more)),
-            6 if more - left == 1 => "refused with 6 for one leaf too many".to_string(),
-            6 => "refused with 6 for several leaves too many".to_string(),
-            10 if more > MOST_LEAVES && given.len() % 32 == 0 => format!("refused with 10 for more than 2^32 hashes{before}"),
-            _ => format!("refused with {number}{before}"),
-        };
-        self.kind(entry, what);
+        match number {
+            REFUSED => {
+                self.first_of_all(entry, |_| behind);
+                self.beside_the_held(entry, algorithm, tree.algorithm);
+            }
+            0 if more == 0 && left == 0 => self.kind(entry, "no leaf taken by a full tree"),
+            0 if more > 0 && more == left => self.kind(entry, "taken, the last leaf"),
+            0 => self.kind(entry, format!("taken, {}", levels_up(tree.count, more))),
+            6 if more - left == 1 => self.kind(entry, "refused with 6 for one leaf too many"),
+            6 => self.kind(entry, "refused with 6 for several leaves too many"),
+            10 if more > MOST_LEAVES && given.len() % 32 == 0 => {
+                self.kind(entry, format!("refused with 10 for more than 2^32 hashes{before}"));
+            }
+            _ => self.kind(entry, format!("refused with {number}{before}")),
+        }
         // The counts first: what is shown is cut.
-        let shown = |(number, tree): (u64, Growing)| (number, tree.count, tree.hashes);
-        self.same(entry, shown((number, after.clone())), found.map(shown), (tree.count, Short(given), tree.hashes));
+        let shown = |(number, tree): (u64, Growing)| (number, tree.algorithm, tree.count, tree.hashes);
+        let of = (algorithm, tree.algorithm, tree.count, Short(given), tree.hashes);
+        self.same(entry, shown((number, after.clone())), found.map(shown), of);
         after
     }
 
     /// The root, by value and into a buffer.
-    pub fn growing_root(&mut self, tree: &Growing, out: &[u8]) {
-        let counting = (0..LEVELS).filter(|level| tree.count >> level & 1 == 1).count();
-        let what = match counting {
-            0 => "of no leaf",
-            1 => "of one hash",
-            2 => "of two hashes",
-            LEVELS => "of all hashes",
-            _ => "of more hashes",
-        };
-        self.kind("growing root", what);
+    pub fn growing_root(&mut self, algorithm: u64, tree: &Growing, out: &[u8]) {
         let code = self.code;
-        self.same("growing root", tree.root(weak), tried(|| code.growing_root(tree)), tree);
-        self.built("growing root", out, tree, |out| tree.root_into(weak, out), |out| code.growing_root_into(tree, out));
+        self.under(algorithm);
+        let expected = tree.root(hashes, algorithm);
+        match (expected, (0..LEVELS).filter(|level| tree.count >> level & 1 == 1).count()) {
+            (Err(_), _) => self.beside_the_held("growing root", algorithm, tree.algorithm),
+            (_, 0) => self.kind("growing root", "of no leaf"),
+            (_, 1) => self.kind("growing root", "of one hash"),
+            (_, 2) => self.kind("growing root", "of two hashes"),
+            (_, LEVELS) => self.kind("growing root", "of all hashes"),
+            _ => self.kind("growing root", "of more hashes"),
+        }
+        let expected = expected.map_or_else(|number| (number, [0; 32]), |root| (0, root));
+        self.same("growing root", expected, tried(|| code.growing_root(algorithm, tree)), (algorithm, tree));
+        let into = |out: &mut [u8]| tree.root_into(hashes, algorithm, out);
+        let behind = |_| if out.len() < 32 { 9 } else { 0 };
+        self.built("growing root", out, tree, into, behind, &[algorithm], |by, out| code.growing_root_into(by, tree, out));
     }
 
     /// A list of calls from a new tree, each given the tree that the code itself returned, and the root after each: the tree at the end.
-    pub fn grow(&mut self, calls: &[Call]) -> Growing {
+    pub fn grow(&mut self, algorithm: u64, calls: &[(u64, Call)]) -> Growing {
         let code = self.code;
         let found = tried(|| {
-            let (mut told, mut tree) = (Vec::new(), code.new_tree());
-            for call in calls {
+            let (number, mut tree) = code.new_tree(algorithm);
+            let mut told = Vec::new();
+            for (by, call) in calls {
                 let (number, after) = match call {
-                    Call::Page(page) => code.add_page(&tree, page),
-                    Call::Leaves(joined) => code.add_leaves(&tree, joined),
+                    Call::Page(page) => code.add_page(*by, &tree, page),
+                    Call::Leaves(joined) => code.add_leaves(*by, &tree, joined),
                 };
-                told.push((number, code.growing_root(&after)));
+                told.push((number, code.growing_root(algorithm, &after).1));
                 tree = after;
             }
-            Grown { told, tree }
+            Grown { number, told, tree }
         });
-        let expected = growing::grow(weak, calls);
+        self.under(algorithm);
+        let expected = growing::grow(hashes, algorithm, calls);
         let tree = expected.tree.clone();
         let last_taken = expected.told.iter().rposition(|(number, _)| *number == 0).unwrap_or(0);
-        for number in [1, 10] {
+        for number in [1, 10, REFUSED] {
             if expected.told[..last_taken].iter().any(|told| told.0 == number) {
                 self.kind("growing list", format!("a call taken behind one refused with {number}"));
             }
         }
-        if expected.told.iter().all(|told| told.0 == 0) {
+        if expected.number == REFUSED {
+            self.kind("growing list", "by a number that no hash has");
+        } else if expected.told.iter().all(|told| told.0 == 0) {
             self.kind("growing list", if tree.count > 0 { "all calls taken" } else { "of no leaves" });
         }
-        let of = calls.iter().map(|call| match call {
-            Call::Page(page) => ("page", Short(page)),
-            Call::Leaves(joined) => ("leaves", Short(joined)),
+        let of = calls.iter().map(|(by, call)| match call {
+            Call::Page(page) => (by, "page", Short(page)),
+            Call::Leaves(joined) => (by, "leaves", Short(joined)),
         });
-        self.same("growing list", expected, found, of.collect::<Vec<_>>());
+        self.same("growing list", expected, found, (algorithm, of.collect::<Vec<_>>()));
         tree
     }
 
@@ -676,30 +803,51 @@ impl<'a> Hold<'a> {
         self.same("empty record", Stored::EMPTY, tried(|| code.empty()), ());
     }
 
-    pub fn offer(&mut self, record: &Stored, one: &Offer) -> (u64, Stored) {
-        let (number, after) = record.offer(weak, one);
+    pub fn offer(&mut self, algorithm: u64, record: &Stored, one: &Offer) -> (u64, Stored) {
+        let (number, after) = record.offer(hashes, algorithm, one);
         assert!(number == 0 || after == *record, "a refusal changes no record");
         let code = self.code;
-        let found = tried(|| code.offer(record, one));
+        let found = tried(|| code.offer(algorithm, record, one));
+        self.under(algorithm);
         let held = if record.held { "a head" } else { "no head" };
         self.kind("offer", format!("{number} where {held} is held"));
         if one.size == LARGEST_SIZE && number == 0 {
             self.kind("offer", format!("0 at the largest size, where {held} is held"));
         }
+        if number == REFUSED {
+            self.first_of_all("offer", |known| Stored { algorithm: known, ..record.clone() }.offer(hashes, known, one).0);
+        }
+        self.beside_record("offer", algorithm, record, number);
         if let Some(what) = beside_held(record, one, number) {
             self.kind("offer", what);
         }
-        self.same("offer", (number, after.clone()), found, (record, one));
+        self.same("offer", (number, after.clone()), found, (algorithm, record, one));
         (number, after)
     }
 
-    pub fn ask(&mut self, record: &Stored, one: &PageCall) -> u64 {
-        let number = record.page(weak, one);
+    pub fn ask(&mut self, algorithm: u64, record: &Stored, one: &PageCall) -> u64 {
+        let number = record.page(hashes, algorithm, one);
         let code = self.code;
-        let found = tried(|| code.ask(record, one));
-        self.verdict("page", number, record.size);
-        self.same("page", (number, record.clone()), found, (record, one.place, one.page.len(), &one.path));
+        let found = tried(|| code.ask(algorithm, record, one));
+        self.under(algorithm);
+        match number {
+            REFUSED => self.first_of_all("page", |known| Stored { algorithm: known, ..record.clone() }.page(hashes, known, one)),
+            _ => self.verdict("page", number, record.size),
+        }
+        self.beside_record("page", algorithm, record, number);
+        self.same("page", (number, record.clone()), found, (algorithm, record, one.place, one.page.len(), &one.path));
         number
+    }
+
+    /// How the number of a call stands to the record's.
+    fn beside_record(&mut self, entry: &str, algorithm: u64, record: &Stored, number: u64) {
+        if record.held && number == REFUSED {
+            self.beside_the_held(entry, algorithm, record.algorithm);
+        }
+        // Where no head is held, the record's number is not looked at.
+        if !record.held && number != REFUSED && record.algorithm != algorithm {
+            self.kind(entry, format!("{number} beside another number, where no head is held"));
+        }
     }
 }
 
@@ -708,6 +856,7 @@ impl Hold<'_> {
     /// A head joined on behind what is used: 5 for its root's length or a path over 65,535 nodes, 10,
     /// then 9. The answer, and the journal after it.
     pub fn append(&mut self, journal: &[u8], used: usize, size: u64, root: &[u8], path: &[u8]) -> (Wrote, Vec<u8>) {
+        self.column = NEITHER;
         let mut after = journal.to_vec();
         let answer = appended(&mut after, used, size, root, path);
         let code = self.code;
@@ -749,7 +898,9 @@ fn beside_held(record: &Stored, one: &Offer, number: u64) -> Option<&'static str
     match (number, one.timestamp.cmp(&record.timestamp)) {
         (12, Less) => Some("12 at an earlier timestamp"),
         (12, Equal) if one.size == record.size => Some("12 at an equal timestamp, another root"),
-        (12, Equal) if record.offer(weak, &later()).0 == 0 => Some("12 at an equal timestamp, a larger size, the path right"),
+        (12, Equal) if record.offer(hashes, record.algorithm, &later()).0 == 0 => {
+            Some("12 at an equal timestamp, a larger size, the path right")
+        }
         (12, Equal) => Some("12 at an equal timestamp, a larger size"),
         (0, Equal) => Some("0 for the held head again"),
         (7, Equal) => Some("7 for the held head again"),
@@ -759,10 +910,10 @@ fn beside_held(record: &Stored, one: &Offer, number: u64) -> Option<&'static str
     }
 }
 
-/// The strings differ and have one hash.
-fn is_collision(pair: &[u8]) {
+/// The strings differ and have one value, by the hash of the call.
+fn is_collision(h: HashFunction, pair: &[u8]) {
     let (one, two) = pair[..PAIR].split_at(PAIR / 2);
-    assert!(one[0] == 1 && two[0] == 1 && one != two && weak(one) == weak(two));
+    assert!(one[0] == 1 && two[0] == 1 && one != two && h(one) == h(two));
 }
 
 type Head = (u64, Vec<u8>, Vec<u8>);

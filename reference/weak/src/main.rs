@@ -1,6 +1,6 @@
-//! weak SEED [COUNT]: the text of octets, tree, growing, carry and auditor, as Rust over a hash of few
+//! weak SEED [COUNT]: the text of octets, tree, growing, carry and auditor, as Rust over two hashes of few
 //! values, held against the reference on COUNT rounds of forged proofs and growing trees. Each kind
-//! of collision and of refusal must come up, each wrong edit must be found, and the translation must
+//! of collision and of refusal must come up by both hashes, each wrong edit must be found, and the translation must
 //! refuse what it does not know. The last line is `N passed, M failed`; the status is not 0 where M is above 0.
 
 mod code;
@@ -19,13 +19,14 @@ mod variants {
 
 use code::{Code, COMPARED};
 use hold::Hold;
+use reference::algorithm::{self, mostly, some_unknown, KNOWN};
 use reference::auditor::{disputes, Call, Dispute, Offer, PageCall, Stored};
 use reference::carry::PAIR;
 use reference::item::LONGEST_ITEM;
 use reference::proofs::next_to_powers;
 use reference::random::Random;
-use reference::servers::{spoil, Server, KINDS};
-use reference::tree::LARGEST_SIZE;
+use reference::servers::{spoil, with_strays, Server, KINDS};
+use reference::tree::{HashFunction, LARGEST_SIZE};
 use reference::yields;
 use std::path::Path;
 use zeros::{zeros, MOST};
@@ -58,37 +59,65 @@ fn some_out(needed: usize, random: &mut Random) -> Vec<u8> {
     random.bytes(length)
 }
 
+/// One of the two numbers, with its hash.
+fn some_hash(random: &mut Random) -> (u64, HashFunction) {
+    let algorithm = algorithm::some(random);
+    (algorithm, given::hashes(algorithm).unwrap())
+}
+
+/// The numbers of a few calls, mostly this one; where what they are about is damaged, all again by numbers that no hash has.
+fn some_numbers(algorithm: u64, is_damaged: bool, random: &mut Random) -> Vec<[u64; 3]> {
+    let mut all = vec![[(); 3].map(|()| mostly(algorithm, random))];
+    if is_damaged {
+        all.push([(); 3].map(|()| some_unknown(random)));
+    }
+    all
+}
+
 fn carry_round(hold: &mut Hold, random: &mut Random) {
-    let mut one = forge::step(random);
-    if random.one_in(5) {
+    let (algorithm, h) = some_hash(random);
+    let mut one = forge::step(h, random);
+    let is_damaged = random.one_in(5);
+    if is_damaged {
         one = forge::fault_step(one, random);
     }
     let needed = 32 * yields::inclusion_count(one.place, one.second);
-    hold.carry(&one, &some_out(needed, random), &some_pair(random));
-    hold.inclusion(&one.leaf, one.place, one.first, &one.old, &one.path);
-    hold.consistency(one.first, one.second, &one.old, &one.new, &one.proof);
+    for numbers in some_numbers(algorithm, is_damaged, random) {
+        hold.carry(numbers[0], &one, &some_out(needed, random), &some_pair(random));
+        hold.inclusion(numbers[1], &one.leaf, one.place, one.first, &one.old, &one.path);
+        hold.consistency(numbers[2], one.first, one.second, &one.old, &one.new, &one.proof);
+    }
 }
 
 fn compare_round(hold: &mut Hold, random: &mut Random) {
-    let mut one = forge::two(random);
-    if random.one_in(5) {
+    let (algorithm, h) = some_hash(random);
+    let mut one = forge::two(h, random);
+    let is_damaged = random.one_in(5);
+    if is_damaged {
         one = forge::fault_two(one, random);
     }
-    hold.compare(&one, &some_pair(random));
-    hold.inclusion(&one.leaves[1], one.place, one.size, &one.root, &one.paths[1]);
+    for numbers in some_numbers(algorithm, is_damaged, random) {
+        hold.compare(numbers[0], &one, &some_pair(random));
+        hold.inclusion(numbers[1], &one.leaves[1], one.place, one.size, &one.root, &one.paths[1]);
+    }
 }
 
 fn dispute_round(hold: &mut Hold, random: &mut Random) {
-    let mut one = forge::dispute(random);
-    if random.one_in(4) {
+    let (algorithm, h) = some_hash(random);
+    let mut one = forge::dispute(h, random);
+    let is_damaged = random.one_in(4);
+    if is_damaged {
         one = forge::fault_dispute(one, random);
     }
-    hold.dispute(&one, &some_pair(random));
+    for numbers in some_numbers(algorithm, is_damaged, random) {
+        hold.dispute(numbers[0], &one, &some_pair(random));
+    }
 }
 
 fn tree_round(hold: &mut Hold, random: &mut Random) {
+    let (algorithm, h) = some_hash(random);
     let count = random.below(41);
-    let mut leaves = forge::any_nodes(count as usize, random).concat();
+    let mut leaves = forge::any_nodes(h, count as usize, random).concat();
     if random.one_in(8) {
         spoil(&mut leaves, random);
     }
@@ -96,32 +125,40 @@ fn tree_round(hold: &mut Hold, random: &mut Random) {
     let is_path = count > 0 && place < count;
     let needed = if is_path && random.one_in(2) { 32 * yields::inclusion_count(place, count) } else { 32 * random.below(7) as usize };
     let out = some_out(needed, random);
-    hold.builders(&leaves, place, first, &out);
+    hold.builders(mostly(algorithm, random), &leaves, place, first, &out);
     hold.octets(&leaves, &out, random);
     hold.tools(&leaves, random);
 }
 
-/// A list of calls to one auditor, and the dispute of every two accepted pages at one place.
+/// A list of calls to one auditor, some by another number, and the dispute of every two accepted pages at one place, by the
+/// number of the calls and at times by another.
 fn list_round(hold: &mut Hold, random: &mut Random) {
     let (kind, most) = (*random.pick(&KINDS), *random.pick(&[8, 16, 32, 64, 64, LARGEST_SIZE]));
-    let calls = Server::random(given::weak, kind, most, random).calls(30, 20, random);
+    let (algorithm, _) = some_hash(random);
+    let calls = Server::random(given::hashes, algorithm, kind, most, random).calls(30, 20, random);
+    let calls = with_strays(algorithm, calls, random);
     hold.empty();
     let mut record = Stored::EMPTY;
     let mut accepted = Vec::new();
-    for call in &calls {
+    for (by, call) in &calls {
         let number = match call {
             Call::Offer(one) => {
-                let (number, after) = hold.offer(&record, one);
+                let (number, after) = hold.offer(*by, &record, one);
                 record = after;
                 number
             }
-            Call::Page(one) => hold.ask(&record, one),
+            Call::Page(one) => hold.ask(*by, &record, one),
         };
         accepted.push(number == 0);
     }
     let all = disputes(&calls, &accepted);
-    for one in all.iter().take(12) {
-        hold.dispute(one, &some_pair(random));
+    for (by, one) in all.iter().take(12) {
+        // Every accepted call went by the number that the record holds.
+        assert_eq!(*by, record.algorithm);
+        hold.dispute(*by, one, &some_pair(random));
+        if random.one_in(8) {
+            hold.dispute(if random.one_in(2) { algorithm::other(*by) } else { some_unknown(random) }, one, &some_pair(random));
+        }
     }
     #[cfg(journal)]
     keep_journal(hold, &calls, &accepted, &all, random);
@@ -129,11 +166,11 @@ fn list_round(hold: &mut Hold, random: &mut Random) {
 
 /// The heads of each dispute lie in the journal, from what is used at the first page to what is used at the second.
 #[cfg(journal)]
-fn keep_journal(hold: &mut Hold, calls: &[Call], accepted: &[bool], all: &[Dispute], random: &mut Random) {
+fn keep_journal(hold: &mut Hold, calls: &[(u64, Call)], accepted: &[bool], all: &[(u64, Dispute)], random: &mut Random) {
     let mut journal = random.bytes(4000);
     let mut used = 0;
     let mut used_at = Vec::new();
-    for (call, accepted) in calls.iter().zip(accepted) {
+    for ((_, call), accepted) in calls.iter().zip(accepted) {
         used_at.push(used);
         if let (Call::Offer(one), true) = (call, accepted) {
             let (answer, after) = hold.append(&journal, used, one.size, &one.root, &one.path);
@@ -149,18 +186,18 @@ fn keep_journal(hold: &mut Hold, calls: &[Call], accepted: &[bool], all: &[Dispu
         }
     }
     let parts = (0..calls.len()).flat_map(|second| (0..second).map(move |first| (first, second)));
-    let pages = parts.filter(|(first, second)| match (&calls[*first], &calls[*second]) {
+    let pages = parts.filter(|(first, second)| match (&calls[*first].1, &calls[*second].1) {
         (Call::Page(one), Call::Page(two)) => accepted[*first] && accepted[*second] && one.place == two.place,
         _ => false,
     });
     let kept: Vec<&[u8]> = pages.map(|(first, second)| &journal[used_at[first]..used_at[second]]).collect();
-    assert!(kept.iter().zip(all).all(|(kept, one)| **kept == one.heads[..]) && kept.len() == all.len());
+    assert!(kept.iter().zip(all).all(|(kept, (_, one))| **kept == one.heads[..]) && kept.len() == all.len());
 }
 
 /// A head joined on in any place of a buffer of any length, damaged at times.
 #[cfg(journal)]
 fn journal_round(hold: &mut Hold, random: &mut Random) {
-    let one = forge::step(random);
+    let one = forge::step(some_hash(random).1, random);
     let (mut root, mut path) = (one.new, one.proof);
     match random.below(8) {
         0 => spoil(&mut root, random),
@@ -173,15 +210,16 @@ fn journal_round(hold: &mut Hold, random: &mut Random) {
     let _ = hold.append(&journal, used, random.draw() >> random.below(64), &root, &path);
 }
 
-/// A record that no list of calls returns, with an offer and a page.
+/// A record that no list of calls returns, with an offer and a page: its number is that of the proofs, or another, or that of no hash.
 fn record_round(hold: &mut Hold, random: &mut Random) {
-    let mut record = Stored { held: !random.one_in(4), ..Stored::EMPTY };
+    let (algorithm, h) = some_hash(random);
+    let mut record = Stored { held: !random.one_in(4), algorithm: mostly(algorithm, random), ..Stored::EMPTY };
     record.id.fill_with(|| random.below(2) as u8);
     record.id_length = *random.pick(&[0, 1, 2, 3, 126, 127, 128, u64::MAX]);
     // Small ones, or up to the last; one in four is equal.
     let earliest = if random.one_in(8) { u64::MAX - 3 } else { 0 };
     record.timestamp = earliest + random.below(3);
-    let one = forge::step(random);
+    let one = forge::step(h, random);
     (record.size, record.root) = (one.first, one.old[..].try_into().unwrap());
     let length = if random.one_in(4) { *random.pick(&[0, 1, 127, 128]) } else { record.id_length.min(127) as usize };
     let mut log_id: Vec<u8> = record.id.iter().copied().cycle().take(length).collect();
@@ -202,50 +240,72 @@ fn record_round(hold: &mut Hold, random: &mut Random) {
         8 => offer.root = record.root.to_vec(),
         _ => (),
     }
-    hold.offer(&record, &offer);
-    let page = PageCall { place: one.place, page: random.bytes(1), path: one.path };
-    hold.ask(&record, &page);
+    let [offered, asked] = [(); 2].map(|()| mostly(if random.one_in(2) { record.algorithm } else { algorithm }, random));
+    hold.offer(offered, &record, &offer);
+    let mut page = PageCall { place: one.place, page: random.bytes(1), path: one.path };
+    if random.one_in(8) {
+        spoil(&mut page.path, random);
+    }
+    hold.ask(asked, &record, &page);
 }
 
-/// One size: of each verdict what is accepted and no place, of carrying a path's room and a byte fewer, and a head of that size
+/// One size, by one hash: of each verdict what is accepted and no place, of carrying a path's room and a byte fewer, and a head of that size
 /// as the first and as a later one, also with the timestamp that is held.
-fn size_round(hold: &mut Hold, size: u64, random: &mut Random) {
+fn size_round(hold: &mut Hold, algorithm: u64, size: u64, random: &mut Random) {
+    let h = given::hashes(algorithm).unwrap();
     for place in [0, size - 1, random.below(size)] {
-        hold.compare(&forge::two_at(place, size, random), &random.bytes(PAIR));
-        let one = forge::step_at(place, random.between(place + 1, size), size, random);
+        hold.compare(algorithm, &forge::two_at(h, place, size, random), &random.bytes(PAIR));
+        let one = forge::step_at(h, place, random.between(place + 1, size), size, random);
         let count = yields::inclusion_count(place, size);
         for room in [32 * count, (32 * count).saturating_sub(1)] {
-            hold.carry(&one, &random.bytes(room), &random.bytes(PAIR));
+            hold.carry(algorithm, &one, &random.bytes(room), &random.bytes(PAIR));
         }
-        hold.consistency(one.first, size, &one.old, &one.new, &one.proof);
-        let (leaf, path) = (forge::any_node(random), forge::any_nodes(count, random));
-        let root = yields::inclusion(given::weak, &leaf, place, size, &path).unwrap();
+        hold.consistency(algorithm, one.first, size, &one.old, &one.new, &one.proof);
+        let (leaf, path) = (forge::any_node(h, random), forge::any_nodes(h, count, random));
+        let root = yields::inclusion(h, &leaf, place, size, &path).unwrap();
         for place in [place, size, u64::MAX] {
-            hold.inclusion(&leaf, place, size, &root, &path.concat());
+            hold.inclusion(algorithm, &leaf, place, size, &root, &path.concat());
         }
-        let held = Stored { held: true, size: one.first, root: one.old[..].try_into().unwrap(), id_length: 2, ..Stored::EMPTY };
+        let held = Stored { held: true, algorithm, size: one.first, root: one.old[..].try_into().unwrap(), id_length: 2, ..Stored::EMPTY };
         let offer = |timestamp: u64, path: &[u8]| Offer { log_id: vec![0; 2], timestamp, size, root: one.new.clone(), path: path.to_vec() };
         for timestamp in [0, 1] {
-            hold.offer(&held, &offer(timestamp, &one.proof));
+            hold.offer(algorithm, &held, &offer(timestamp, &one.proof));
         }
-        hold.offer(&Stored::EMPTY, &offer(1, &[]));
+        hold.offer(algorithm, &Stored::EMPTY, &offer(1, &[]));
     }
 }
 
-/// Pages at the limit and over it, once.
+/// A consistency path of 65 nodes, the longest, by each hash.
+fn longest_proof(hold: &mut Hold, random: &mut Random) {
+    for algorithm in KNOWN {
+        let one = forge::step_at(given::hashes(algorithm).unwrap(), random.below(3), 3, LARGEST_SIZE, random);
+        hold.carry(algorithm, &one, &random.bytes(forge::LONGEST), &random.bytes(PAIR));
+    }
+}
+
+/// Pages at the limit and over it, once for each hash; and 16 before them.
 fn long_pages(hold: &mut Hold, random: &mut Random) {
     given::keep(0);
-    let record = Stored { held: true, size: 1, root: given::weak(&[]), ..Stored::EMPTY };
     let [most, over] = [LONGEST_ITEM, LONGEST_ITEM + 1].map(|length| vec![7; length]);
     let call = |page: &[u8]| PageCall { place: 0, page: page.to_vec(), path: vec![] };
-    for page in [&most, &over] {
-        hold.ask(&record, &call(page));
-        hold.ask(&Stored::EMPTY, &call(page));
-    }
-    for (first, second) in [(&most[..], &[1][..]), (&over, &[1]), (&[1], &most), (&[1], &over), (&over, &over)] {
-        for root in [record.root.to_vec(), vec![]] {
-            let one = Dispute { first: call(first), size: 1, root, heads: vec![], second_page: second.to_vec(), second_path: vec![] };
-            hold.dispute(&one, &some_pair(random));
+    for algorithm in KNOWN {
+        let root = given::hashes(algorithm).unwrap()(&[]);
+        let record = Stored { held: true, algorithm, size: 1, root, ..Stored::EMPTY };
+        for page in [&most, &over] {
+            hold.ask(algorithm, &record, &call(page));
+            hold.ask(algorithm, &Stored::EMPTY, &call(page));
+        }
+        for by in [algorithm::other(algorithm), algorithm ^ 0x100] {
+            hold.ask(by, &record, &call(&over));
+        }
+        for (first, second) in [(&most[..], &[1][..]), (&over, &[1]), (&[1], &most), (&[1], &over), (&over, &over)] {
+            for root in [root.to_vec(), vec![]] {
+                let one = Dispute { first: call(first), size: 1, root, heads: vec![], second_page: second.to_vec(), second_path: vec![] };
+                hold.dispute(algorithm, &one, &some_pair(random));
+                if first.len().max(second.len()) > LONGEST_ITEM {
+                    hold.dispute(algorithm ^ 0x100, &one, &some_pair(random));
+                }
+            }
         }
     }
     #[cfg(journal)]
@@ -276,7 +336,8 @@ fn rounds(code: &dyn Code, seed: u64, count: u64, is_sought: bool) -> Hold<'_> {
     for turn in 0..count {
         given::keep(BITS[turn as usize % BITS.len()]);
         if let Some(size) = sizes.pop() {
-            size_round(&mut hold, size, random);
+            KNOWN.iter().for_each(|algorithm| size_round(&mut hold, *algorithm, size, random));
+            longest_proof(&mut hold, random);
         }
         compare_round(&mut hold, random);
         carry_round(&mut hold, random);
@@ -352,16 +413,18 @@ fn main() {
         tally.count(COMPARED.contains(name), || format!("public, and not compared: {name}"));
     }
     translation(&mut tally);
-    let is_full = WANTED.lines().count() > 215 && variants::CODES.len() > 52;
+    let is_full = WANTED.lines().count() > 330 && variants::CODES.len() > 84;
     tally.count(is_full, || "kinds or wrong programs are gone".to_string());
 
     let hold = rounds(variants::CODES[0].1, seed, count, false);
     hold.shown.iter().for_each(|one| println!("DISAGREEMENT: {one}"));
-    hold.kinds.iter().for_each(|(kind, count)| println!("{count:>8}  {kind}"));
+    println!("{:>8}{:>8}{:>8}", "SHA-256", "SM3", "neither");
+    hold.kinds.iter().for_each(|(kind, [sha256, sm3, neither])| println!("{sha256:>8}{sm3:>8}{neither:>8}  {kind}"));
     tally.passed += hold.calls - hold.failed;
     tally.failed += hold.failed;
     for kind in WANTED.lines().filter(|kind| cfg!(journal) || !kind.starts_with("journal: ")) {
-        tally.count(hold.kinds.contains_key(kind), || format!("did not come up: {kind}"));
+        let [sha256, sm3, neither] = hold.kinds.get(kind).copied().unwrap_or_default();
+        tally.count(neither > 0 || sha256 > 0 && sm3 > 0, || format!("did not come up by both hashes: {kind}"));
     }
 
     for (name, code) in &variants::CODES[1..] {

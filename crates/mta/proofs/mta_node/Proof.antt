@@ -1,39 +1,27 @@
 use borrow.Author.Needs.{needs}
-use denote.Ref.{now}
-use mathlib.Core.Path.{_≡_, ap, ap₂, _∙_}
-use native.Mathlib.Omega.{arith}
-use lib.ListN.{length}
-use Rattle.octets.proofs.Putting.{put-over}
-use Rattle.octets.specs.Bytes.{over}
-use Rattle.hash.specs.Digest.{nodeHash}
-use Rattle.hash.proofs.Promises.{sha256-length}
-use Rattle.mta.proofs.Outcomes.{node-left, node-right, node-short, node-done}
+use mathlib.Core.Path.{sym, _∙_}
+use Rattle.hash.proofs.Algorithms.{by-known, by-unknown}
 use Rattle.mta.proofs.mta_node.Statement.{statement}
 use Rattle.mta.proofs.mta_node.Tie as tie
 
 returns : tie.Need-returns
-returns c = let a = c .before .before .before .before .args in node-left (now (a .left)) (now (a .right)) (now (a .out)) (c .if1 .taken)
+returns c =
+    let named = c .before .before .before .before .before in
+    let e = sym (named .named .given .1) ∙ named .before .before .algorithm-of .ensures in
+    let done = c .before .before .node-into .ensures in
+    (done .0 ∙ by-known _ _ _ _ e, done .1 ∙ by-known _ _ _ _ e)
 
 returns-2 : tie.Need-returns-2
-returns-2 c = let a = c .before .before .before .before .before .args in node-right (now (a .left)) (now (a .right)) (now (a .out)) (c .before .if1 .left) (c .if2 .taken)
-
-returns-3 : tie.Need-returns-3
-returns-3 c = let a = c .before .before .before .before .before .before .args in node-short (now (a .left)) (now (a .right)) (now (a .out)) (c .before .before .if1 .left) (c .before .if2 .left) (c .if3 .taken)
-
-returns-4 : tie.Need-returns-4
-unfolding over
-returns-4 c =
-    let i = c .before .before .before .before .before .before .before .before .before in
-    let a = i .before .before .before .before .before .before .args in
-    let l = now (a .left) in
-    let r = now (a .right) in
-    let o = now (a .out) in
-    let h = c .before .before .before .before .before .before in
-    let b = h .node .result .bytes in
-    let e : b ≡ nodeHash l r = h .node .ensures ∙ ap₂ nodeHash (h .before .before .digest-from .ensures) (h .before .digest-from2 .ensures) in
-    let n : length b ≡ 32 = ap length e ∙ sha256-length _ in
-    let d = node-done l r o (i .before .before .if1 .left) (i .before .if2 .left) (i .if3 .left) in
-    (d .0, c .before .before .put .ensures ∙ put-over o b (omega (arith, n)) ∙ rw (n, e) (d .1))
+returns-2 c = let e = sym (c .enum-told .given .1) ∙ c .before .before .algorithm-of .ensures in (by-unknown _ _ _ e, by-unknown _ _ _ e)
 
 pub mta-node-spec : {M : Type 1} → statement M
-mta-node-spec = tie.close (tie.spec returns returns-2 returns-3 (λ c. search needs) (λ c. search needs) (λ c. search needs) (λ c. search needs) (λ c. search needs) (λ c. search needs) returns-4)
+mta-node-spec =
+    tie.close
+    (tie.spec
+    (λ c κs. search needs)
+    (λ c. search needs)
+    (λ c κs. search needs)
+    (λ c. search needs)
+    (λ c. search needs)
+    returns
+    returns-2)

@@ -2,7 +2,8 @@ use native.Mathlib.Omega.{arith}
 use borrow.Author.Needs.{needs}
 use denote.Ref.{now}
 use mathlib.Core.Path.{refl, _∙_}
-use Rattle.sha256.specs.Words.{wordFrom}
+use Rattle.words.specs.Words.{wordFrom}
+use Rattle.words.proofs.Promises.{after-load}
 use Rattle.sha256.specs.Sha256.{constants, compress}
 use Rattle.sha256.proofs.Schedule.{whole}
 use Rattle.sha256.proofs.compress.Statement.{statement}
@@ -17,7 +18,9 @@ unfolding compress
 returns c =
     let a = c .before .before .before .before .before .before .before .before .before .before .before .before .args in
     let x = wordFrom (now (a .m)) (a .p) in
-    let ran = c .before .before .before .run .ensures x (c .before .before .before .before .before .before .before .before .load .ensures) in
+    let pre = c .before .before .before .before .before .before .before .before .before .before .before .before .pre in
+    let known = after-load (now (a .m)) (now (a .w)) _ (a .p) (c .before .before .before .before .before .before .before .before .load .ensures) (pre .0) (omega (arith, pre .1)) in
+    let ran = c .before .before .before .run .ensures x known in
     (c .add-state .ensures ∙ rw (ran .0), whole _ x (search needs) (ran .1))
 
 pub compress-spec : {M : Type 1} → statement M

@@ -4,8 +4,9 @@ use Prim.Native.Nat.{ℕ, _+_, _-_, _*_, _≤_}
 use mathlib.Core.Path.{_≡_, refl, _∙_}
 use native.Mathlib.Omega.{arith}
 use lib.ListN.{length}
+use Rattle.words.specs.Known.{Known}
 use Rattle.sha256.specs.Sha256.{constants, word, rounds}
-use Rattle.sha256.specs.Inner.{Known, Scheduled}
+use Rattle.sha256.specs.Inner.{Scheduled}
 use Rattle.sha256.proofs.Schedule.{scheduled-first, eight-more}
 use Rattle.sha256.proofs.run.Statement.{statement}
 use Rattle.sha256.proofs.run.Tie as tie

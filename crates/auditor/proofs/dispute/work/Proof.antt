@@ -7,7 +7,7 @@ use lib.ListN.{length, take, drop, length-drop}
 use lib.Seq.{length-take-le}
 use denote.Ref.{now}
 use borrow.Author.Needs.{needs}
-use Rattle.hash.specs.Digest.{sha256}
+use Rattle.hash.specs.Digest.{hashOf}
 use Rattle.carry.specs.Forward.{carry, carrying}
 use Rattle.auditor.specs.Heads.{headSize, headRoot, headPath, headsOf}
 use Rattle.auditor.specs.Dispute.{onward, longestPath, follow, disputeReport, pairDisputed}
@@ -19,12 +19,12 @@ use Rattle.auditor.proofs.dispute.work.Statement.{statement}
 use Rattle.auditor.proofs.dispute.work.Tie as tie
 
 abbrev Inv-loop : tie.InvT-loop
-Inv-loop place page1 path1 size root heads page2 path2 pair₀ leaf1 leaf2 path₀ len₀ held₀ m₀ at₀ pair path len held m at =
+Inv-loop alg place page1 path1 size root heads page2 path2 pair₀ leaf1 leaf2 path₀ len₀ held₀ m₀ at₀ pair path len held m at =
     (at ≤ length heads) × (len ≤ longestPath) × (length path ≡ longestPath) × (length held ≡ 32) × (length pair ≡ length pair₀) × (pair ≡ pair₀)
-    × (Left sha256 place page1 page2 path2 heads (length pair₀) at m held (take len path) ≡ Left sha256 place page1 page2 path2 heads (length pair₀) 0 size root path1)
+    × (Left (hashOf alg) place page1 page2 path2 heads (length pair₀) at m held (take len path) ≡ Left (hashOf alg) place page1 page2 path2 heads (length pair₀) 0 size root path1)
 
 abbrev μ-loop : tie.MeasureT-loop
-μ-loop place page1 path1 size root heads page2 path2 pair₀ leaf1 leaf2 path₀ len₀ held₀ m₀ at₀ pair path len held m at =
+μ-loop alg place page1 path1 size root heads page2 path2 pair₀ leaf1 leaf2 path₀ len₀ held₀ m₀ at₀ pair path len held m at =
     length heads - at
 
 -- from the loop back to the entry, from a head that is carried over to the reading of its length, and to the loop
@@ -53,7 +53,7 @@ loop-holds c =
       search needs,
       refl,
       refl,
-      ap₂ (λ (r p : List ℕ). Left sha256 (a .place) (now (a .page1)) (now (a .page2)) (now (a .path2)) (now (a .heads)) (length (now (a .pair))) 0 (a .size) r p)
+      ap₂ (λ (r p : List ℕ). Left (hashOf (a .alg)) (a .place) (now (a .page1)) (now (a .page2)) (now (a .path2)) (now (a .heads)) (length (now (a .pair))) 0 (a .size) r p)
           (c .root-of .ensures)
           (ap (take (length (now (a .path1)))) (c .before .before .copy .ensures) ∙ over-start (now (a .path1)) _ _ refl),
     )
@@ -64,7 +64,7 @@ returns c =
     let k = h .before .before .before in
     let a = S k .args in
     let L = k .loop in
-    let e = sym (L .inv .6) ∙ left-truncated sha256 (a .place) (now (a .page1)) (now (a .page2)) (now (a .path2)) (now (a .heads)) (length (now (a .pair))) (L .at) (L .m) (L .held) (take (L .len) (L .path)) _ (rest-is (now (a .heads)) (L .at)) _ (h .head-bytes .ensures) (h .before .before .loop-test .taken) (c .if1 .taken) in
+    let e = sym (L .inv .6) ∙ left-truncated (hashOf (a .alg)) (a .place) (now (a .page1)) (now (a .page2)) (now (a .path2)) (now (a .heads)) (length (now (a .pair))) (L .at) (L .m) (L .held) (take (L .len) (L .path)) _ (rest-is (now (a .heads)) (L .at)) _ (h .head-bytes .ensures) (h .before .before .loop-test .taken) (c .if1 .taken) in
     let t = reports-refused _ 2 (now (a .pair)) e in
     (t .0, L .inv .5 ∙ t .1)
 
@@ -87,13 +87,13 @@ turn : (c : tie.After-over-head Inv-loop μ-loop) →
     (let a = S (K c) .args in
     let L = K c .loop in
     let rest = take (length (now (a .heads)) - L .at) (drop (L .at) (now (a .heads))) in
-    Left sha256 (a .place) (now (a .page1)) (now (a .page2)) (now (a .path2)) (now (a .heads)) (length (now (a .pair))) 0 (a .size) (now (a .root)) (now (a .path1))
-    ≡ onward (carry sha256 (a .one .bytes) (a .place) (L .m) (headSize rest) (L .held) (headRoot rest) (take (L .len) (L .path)) (headPath rest) longestPath (length (L .pair)))
-    (follow sha256 (a .place) (now (a .page1)) (now (a .page2)) (now (a .path2)) (length (now (a .pair))) (headsOf (drop (L .at + O c .head-bytes .result) (now (a .heads)))) (headSize rest) (headRoot rest)))
+    Left (hashOf (a .alg)) (a .place) (now (a .page1)) (now (a .page2)) (now (a .path2)) (now (a .heads)) (length (now (a .pair))) 0 (a .size) (now (a .root)) (now (a .path1))
+    ≡ onward (carry (hashOf (a .alg)) (a .one .bytes) (a .place) (L .m) (headSize rest) (L .held) (headRoot rest) (take (L .len) (L .path)) (headPath rest) longestPath (length (L .pair)))
+    (follow (hashOf (a .alg)) (a .place) (now (a .page1)) (now (a .page2)) (now (a .path2)) (length (now (a .pair))) (headsOf (drop (L .at + O c .head-bytes .result) (now (a .heads)))) (headSize rest) (headRoot rest)))
 turn c =
     let a = S (K c) .args in
     let L = K c .loop in
-    sym (L .inv .6) ∙ left-then sha256 (a .place) (now (a .page1)) (now (a .page2)) (now (a .path2)) (now (a .heads)) (length (now (a .pair))) (L .at) (L .m) (L .held) (take (L .len) (L .path)) _ (rest-is (now (a .heads)) (L .at)) _ (O c .head-bytes .ensures) (a .one .bytes) (length (L .pair)) (c .before .before .before .before .before .before .before .if1 .left) (S (K c) .pre .2) (L .inv .4)
+    sym (L .inv .6) ∙ left-then (hashOf (a .alg)) (a .place) (now (a .page1)) (now (a .page2)) (now (a .path2)) (now (a .heads)) (length (now (a .pair))) (L .at) (L .m) (L .held) (take (L .len) (L .path)) _ (rest-is (now (a .heads)) (L .at)) _ (O c .head-bytes .ensures) (a .one .bytes) (length (L .pair)) (c .before .before .before .before .before .before .before .if1 .left) (S (K c) .pre .2) (L .inv .4)
 
 returns-2 : tie.Need-returns-2 Inv-loop μ-loop
 returns-2 c =
@@ -151,10 +151,10 @@ loop-again c =
     let L = K o .loop in
     let d = o .over-head .ensures in
     let rest = take (length (now (a .heads)) - L .at) (drop (L .at) (now (a .heads))) in
-    let q = carried-path _ (follow sha256 (a .place) (now (a .page1)) (now (a .page2)) (now (a .path2)) (length (now (a .pair))) (headsOf (drop (L .at + O o .head-bytes .result) (now (a .heads)))) (headSize rest) (headRoot rest)) _ _ _ (ap carrying (sym (c .before .before .before .before .carried2 .given .1)) ∙ d .0) (d .1 .0) in
+    let q = carried-path _ (follow (hashOf (a .alg)) (a .place) (now (a .page1)) (now (a .page2)) (now (a .path2)) (length (now (a .pair))) (headsOf (drop (L .at + O o .head-bytes .result) (now (a .heads)))) (headSize rest) (headRoot rest)) _ _ _ (ap carrying (sym (c .before .before .before .before .carried2 .given .1)) ∙ d .0) (d .1 .0) in
     let t = d .1 .1 ∙ q .2 (L .pair) ∙ L .inv .5 in (
       next c,
-      within _ (o .over-head .last .1 .1 .1 .1 .1 .1 .1 .0) (q .1) (search needs),
+      within _ (o .over-head .last .1 .1 .1 .1 .1 .1 .1 .1 .0) (q .1) (search needs),
       search needs,
       search needs,
       ap length t,
@@ -173,7 +173,7 @@ returns-4 c =
     let a = S k .args in
     let L = k .loop in
     let d = c .before .before .settle .ensures in
-    let e = sym (L .inv .6) ∙ left-end sha256 (a .place) (now (a .page1)) (now (a .page2)) (now (a .path2)) (now (a .heads)) (length (now (a .pair))) (L .at) (L .m) (L .held) (take (L .len) (L .path)) (a .one .bytes) (a .two .bytes) (length (L .pair)) (c .before .before .before .before .before .before .before .before .loop-test .left) (S k .pre .2) (S k .pre .3) (L .inv .4) in
+    let e = sym (L .inv .6) ∙ left-end (hashOf (a .alg)) (a .place) (now (a .page1)) (now (a .page2)) (now (a .path2)) (now (a .heads)) (length (now (a .pair))) (L .at) (L .m) (L .held) (take (L .len) (L .path)) (a .one .bytes) (a .two .bytes) (length (L .pair)) (c .before .before .before .before .before .before .before .before .loop-test .left) (S k .pre .2) (S k .pre .3) (L .inv .4) in
     (d .0 ∙ ap disputeReport (sym e), d .1 ∙ ap₂ pairDisputed (sym e) (L .inv .5))
 
 pub work-spec : {M : Type 1} → statement M

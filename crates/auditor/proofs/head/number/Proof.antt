@@ -3,7 +3,7 @@ use mathlib.Core.Path.{_≡_, sym, _∙_}
 use denote.Ref.{now}
 use borrow.Author.Needs.{needs}
 use borrow.Author.Tests.{eq-eqb, ne-eqb, lt-ltb, le-ltb}
-use Rattle.hash.specs.Digest.{sha256}
+use Rattle.hash.specs.Digest.{hashOf}
 use Rattle.auditor.specs.Held.{view}
 use Rattle.auditor.specs.Offer.{byRecord, offerNumber}
 use Rattle.auditor.proofs.Offering.{view-held, view-empty, passes}
@@ -31,14 +31,14 @@ unfolding byRecord
 returns-5 c =
     let a = c .before .before .before .before .before .before .before .before .before .args in
     let b = c .before .before in
-    c .later-number .ensures ∙ sym (passes sha256 (view (a .r)) (now (a .id)) (a .timestamp) (a .size) (now (a .root)) (now (a .path)) (b .before .before .before .if1 .left) (b .before .before .if2 .left) (b .before .if3 .left) (b .if4 .left) ∙ rw (view-held (a .r) (c .before .if5 .taken)))
+    c .later-number .ensures ∙ sym (passes (hashOf (a .alg)) (view (a .r)) (now (a .id)) (a .timestamp) (a .size) (now (a .root)) (now (a .path)) (b .before .before .before .if1 .left) (b .before .before .if2 .left) (b .before .if3 .left) (b .if4 .left) ∙ rw (view-held (a .r) (c .before .if5 .taken)))
 
 returns-6 : tie.Need-returns-6
 unfolding byRecord
 returns-6 c =
     let a = c .before .before .before .before .before .before .before .before .before .args in
     let b = c .before .before in
-    c .first-number .ensures ∙ sym (passes sha256 (view (a .r)) (now (a .id)) (a .timestamp) (a .size) (now (a .root)) (now (a .path)) (b .before .before .before .if1 .left) (b .before .before .if2 .left) (b .before .if3 .left) (b .if4 .left) ∙ rw (view-empty (a .r) (c .before .if5 .left)))
+    c .first-number .ensures ∙ sym (passes (hashOf (a .alg)) (view (a .r)) (now (a .id)) (a .timestamp) (a .size) (now (a .root)) (now (a .path)) (b .before .before .before .if1 .left) (b .before .before .if2 .left) (b .before .if3 .left) (b .if4 .left) ∙ rw (view-empty (a .r) (c .before .if5 .left)))
 
 pub number-spec : {M : Type 1} → statement M
 number-spec =

@@ -1,32 +1,30 @@
 -- `auditor::head::offer` meets its contract. Assumes nothing.
-use mathlib.Core.Path.{_≡_, refl, sym, ap, _∙_}
-use denote.Ref.{now}
+use mathlib.Core.Path.{_≡_, sym, ap, _∙_}
 use borrow.Author.Needs.{needs}
-use Rattle.hash.specs.Digest.{sha256}
-use Rattle.auditor.specs.Held.{view}
-use Rattle.auditor.proofs.Offering.{passed, reports-refused, reports-accepted}
+use Rattle.hash.specs.declared.Named.{Named}
+use Rattle.hash.specs.Digest.{byNamed}
+use Rattle.auditor.specs.declared.Answered.{Answered}
+use Rattle.auditor.specs.Offer.{offered}
+use Rattle.auditor.proofs.Choosing.{chose, chose-none}
 use Rattle.auditor.proofs.head.offer.Statement.{statement}
 use Rattle.auditor.proofs.head.offer.Tie as tie
 
 returns : tie.Need-returns
-returns c =
-    let a = c .before .before .before .before .before .before .args in
-    c .unchanged .ensures ∙ reports-refused (a .r) (now (a .id)) (a .timestamp) (a .size) (now (a .root)) (now (a .path)) _ (c .before .before .number .ensures) (c .before .if1 .taken)
-
-id-of-requires : tie.Need-id-of-requires
-id-of-requires c κs =
-    let a = c .before .before .before .before .before .args in
-    passed sha256 (view (a .r)) (now (a .id)) (a .timestamp) (a .size) (now (a .root)) (now (a .path)) (sym (c .before .number .ensures) ∙ c .if1 .left) .id-most
-
-root-of-requires : tie.Need-root-of-requires
-root-of-requires c κs =
-    let a = c .before .before .before .before .before .before .args in
-    passed sha256 (view (a .r)) (now (a .id)) (a .timestamp) (a .size) (now (a .root)) (now (a .path)) (sym (c .before .before .number .ensures) ∙ c .before .if1 .left) .root-32
+unfolding offered
+returns c = let named = c .before .before in c .offer-by .ensures ∙ chose _ _ _ (sym (named .named .given .1) ∙ named .before .before .chosen .ensures)
 
 returns-2 : tie.Need-returns-2
-returns-2 c =
-    let a = c .before .before .before .before .before .before .before .args in
-    reports-accepted (a .r) (now (a .id)) (a .timestamp) (a .size) (now (a .root)) (now (a .path)) _ (c .before .before .before .number .ensures) _ _ _ (c .before .before .if1 .left) (c .before .id-of .ensures) (c .root-of .ensures) refl
+unfolding offered
+returns-2 c = let told = c .before in c .unchanged .ensures ∙ chose-none _ _ (sym (told .enum-told .given .1) ∙ told .before .before .chosen .ensures)
 
 pub offer-spec : {M : Type 1} → statement M
-offer-spec = tie.close (tie.spec (λ c κs. search needs) (λ c κs. search needs) returns id-of-requires root-of-requires returns-2)
+offer-spec =
+    tie.close
+    (tie.spec
+    (λ c κs. search needs)
+    (λ c. search needs)
+    (λ c κs. search needs)
+    (λ c. search needs)
+    (λ c κs. search needs)
+    returns
+    returns-2)

@@ -1,6 +1,7 @@
 -- `auditor::page::number` meets its contract. Assumes nothing.
 use denote.Ref.{now}
 use borrow.Author.Needs.{needs}
+use Rattle.hash.specs.Digest.{hashOf}
 use Rattle.auditor.specs.Held.{view}
 use Rattle.auditor.specs.Page.{pageNumber}
 use Rattle.auditor.proofs.Asking.{refused-1, taken-0}
@@ -19,7 +20,7 @@ unfolding pageNumber view
 returns-2 c =
     let b = c .before .before .before .before .before in
     let a = b .before .before .before .before .before .before .args in
-    let e = taken-0 (now (a .page)) _ _ (b .before .before .leaf .ensures .0) (b .if2 .left) (b .before .before .leaf .ensures .1) in
+    let e = taken-0 (hashOf (a .alg)) (now (a .page)) _ _ (b .before .before .leaf .ensures .0) (b .if2 .left) (b .before .before .leaf .ensures .1) in
     simp (b .before .before .before .if1 .taken, e .0, ← (e .1), c .inclusion-verdict .ensures)
 
 returns-3 : tie.Need-returns-3

@@ -3,7 +3,7 @@ use mathlib.Core.Path.{_≡_, sym, _∙_}
 use Prim.Native.Nat.{ℕ, _-_, _<_}
 use native.Mathlib.Omega.{arith}
 use denote.Ref.{now}
-use Rattle.hash.specs.Digest.{sha256}
+use Rattle.hash.specs.Digest.{hashOf}
 use Rattle.tree.specs.Joined.{nodeAt}
 use Rattle.tree.proofs.Joining.{hash-in}
 use Rattle.tree.proofs.Counting.{count-some, count-low, count-high}
@@ -24,7 +24,7 @@ use Rattle.carry.proofs.compare.+recompute.{statement}
 use Rattle.carry.proofs.compare.+recompute.Tie.{close}
 
 abbrev μ-recompute : Measures 2 recompute-kinds.ps ℕ
-μ-recompute κs a = a .1 .1 .1 .0
+μ-recompute κs a = a .1 .1 .1 .1 .0
 
 abbrev recompute-at : ℕ → In 2 recompute-kinds.ps
 recompute-at t = and 2 recompute-kinds.ps (is 2 recompute-kinds.ps μ-recompute t) recompute.Pre
@@ -62,8 +62,8 @@ recompute-returns t c =
     let a = c .before .before .before .before .args in
     let e : a .size ≡ 1 = omega arith in
     let s = c .start .ensures in (
-      s .0 .0 ∙ included-few sha256 (a .place) (a .size) 0 (a .one .bytes) (a .count) (now (a .first)) (omega arith),
-      (s .0 .1 ∙ included-few sha256 (a .place) (a .size) 0 (a .two .bytes) (a .count) (now (a .second)) (omega arith), s .1 ∙ sym (differ-one sha256 (a .place) (a .size) (a .one .bytes) _ (a .two .bytes) _ e)),
+      s .0 .0 ∙ included-few (hashOf (a .alg)) (a .place) (a .size) 0 (a .one .bytes) (a .count) (now (a .first)) (omega arith),
+      (s .0 .1 ∙ included-few (hashOf (a .alg)) (a .place) (a .size) 0 (a .two .bytes) (a .count) (now (a .second)) (omega arith), s .1 ∙ sym (differ-one (hashOf (a .alg)) (a .place) (a .size) (a .one .bytes) _ (a .two .bytes) _ e)),
     )
 
 recompute-split-of-requires : (t : ℕ) → recompute-lts.Need-split-of-requires (calls t) (recompute-at t) recompute.Post
@@ -98,7 +98,7 @@ recompute-returns-2 : (t : ℕ) → recompute-lts.Need-returns-2 (calls t) (reco
 recompute-returns-2 t c =
     let here = c .before .before .before .before .before in
     let a = start t here .args in
-    level-low sha256 (a .place) (a .size) (here .before .before .split-of .result) (a .one .bytes) (a .two .bytes) (a .count) (now (a .first)) (now (a .second)) (some t here) (more t here) (here .before .before .split-of .ensures .0)
+    level-low (hashOf (a .alg)) (a .place) (a .size) (here .before .before .split-of .result) (a .one .bytes) (a .two .bytes) (a .count) (now (a .first)) (now (a .second)) (some t here) (more t here) (here .before .before .split-of .ensures .0)
     (c .before .before .before .before .if2 .taken) (first-node t here) (second-node t here) (c .before .before .before .recompute .ensures) (c .above .ensures .0) (c .above .ensures .1)
 
 recompute-sub-recompute : (t : ℕ) → recompute-lts.Need-sub-recompute (calls t) (recompute-at t) recompute.Post
@@ -118,7 +118,7 @@ recompute-returns-3 : (t : ℕ) → recompute-lts.Need-returns-3 (calls t) (reco
 recompute-returns-3 t c =
     let here = c .before .before .before .before .before in
     let a = start t here .args in
-    level-high sha256 (a .place) (a .size) (here .before .before .split-of .result) (a .one .bytes) (a .two .bytes) (a .count) (now (a .first)) (now (a .second)) (some t here) (more t here) (here .before .before .split-of .ensures .0)
+    level-high (hashOf (a .alg)) (a .place) (a .size) (here .before .before .split-of .result) (a .one .bytes) (a .two .bytes) (a .count) (now (a .first)) (now (a .second)) (some t here) (more t here) (here .before .before .split-of .ensures .0)
     (c .before .before .before .before .if2 .left) (first-node t here) (second-node t here) (c .before .before .before .recompute2 .ensures) (c .above2 .ensures .0) (c .above2 .ensures .1)
 
 pub +recompute-spec : {M : Type 1} → statement M

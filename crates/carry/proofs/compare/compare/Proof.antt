@@ -6,7 +6,7 @@ use native.Mathlib.Omega.{arith}
 use lib.ListN.{length}
 use denote.Ref.{now}
 use borrow.Author.Needs.{needs}
-use Rattle.hash.specs.Digest.{sha256}
+use Rattle.hash.specs.Digest.{hashOf}
 use Rattle.tree.specs.Count.{inclusionCount}
 use Rattle.tree.specs.Joined.{nodes}
 use Rattle.carry.specs.Compare.{found, differ, compare}
@@ -34,30 +34,30 @@ module _ (c : tie.Else2) where
       × (length path / 32 ≡ inclusionCount (s .args .place) (s .args .size))
 
   first : Has (now (s .args .leaf1)) (now (s .args .path1))
-  first = accepted-proof sha256 (now (s .args .leaf1)) (s .args .place) (s .args .size) (now (s .args .root)) (now (s .args .path1)) (l .inclusion-verdict .ensures) (c .before .before .if1 .left)
+  first = accepted-proof (hashOf (s .args .alg)) (now (s .args .leaf1)) (s .args .place) (s .args .size) (now (s .args .root)) (now (s .args .path1)) (l .inclusion-verdict .ensures) (c .before .before .if1 .left)
 
   second : Has (now (s .args .leaf2)) (now (s .args .path2))
-  second = accepted-proof sha256 (now (s .args .leaf2)) (s .args .place) (s .args .size) (now (s .args .root)) (now (s .args .path2)) (c .before .inclusion-verdict2 .ensures) (c .if2 .left)
+  second = accepted-proof (hashOf (s .args .alg)) (now (s .args .leaf2)) (s .args .place) (s .args .size) (now (s .args .root)) (now (s .args .path2)) (c .before .inclusion-verdict2 .ensures) (c .if2 .left)
 
 -- what is recomputed is what the two proofs differ in, and the outcome is that
 difference : (c : tie.After-recompute) →
     (let a = s (c .before .before .before .before) .args in
-    differenceOf (c .recompute .result) ≡ differ sha256 (a .place) (a .size) (now (a .leaf1)) (nodes (now (a .path1))) (now (a .leaf2)) (nodes (now (a .path2))))
+    differenceOf (c .recompute .result) ≡ differ (hashOf (a .alg)) (a .place) (a .size) (now (a .leaf1)) (nodes (now (a .path1))) (now (a .leaf2)) (nodes (now (a .path2))))
 difference c =
     let e = c .before .before .before .before in
     let a = s e .args in
     let p = first e in
     let q = second e in
-    difference-bytes sha256 (a .place) (a .size) (now (a .leaf1)) (now (a .path1)) (now (a .leaf2)) (now (a .path2)) (c .recompute .ensures .1 .1) (c .before .before .node-at .ensures) (p .0) (c .before .node-at2 .ensures) (q .0) (p .4 ∙ sym (q .4))
+    difference-bytes (hashOf (a .alg)) (a .place) (a .size) (now (a .leaf1)) (now (a .path1)) (now (a .leaf2)) (now (a .path2)) (c .recompute .ensures .1 .1) (c .before .before .node-at .ensures) (p .0) (c .before .node-at2 .ensures) (q .0) (p .4 ∙ sym (q .4))
 
 outcome : (c : tie.After-recompute) →
     (let a = s (c .before .before .before .before) .args in
-    compare sha256 (a .place) (a .size) (now (a .root)) (now (a .leaf1)) (now (a .path1)) (now (a .leaf2)) (now (a .path2)) (length (now (a .pair)))
-    ≡ found (differ sha256 (a .place) (a .size) (now (a .leaf1)) (nodes (now (a .path1))) (now (a .leaf2)) (nodes (now (a .path2)))))
+    compare (hashOf (a .alg)) (a .place) (a .size) (now (a .root)) (now (a .leaf1)) (now (a .path1)) (now (a .leaf2)) (now (a .path2)) (length (now (a .pair)))
+    ≡ found (differ (hashOf (a .alg)) (a .place) (a .size) (now (a .leaf1)) (nodes (now (a .path1))) (now (a .leaf2)) (nodes (now (a .path2)))))
 outcome c =
     let e = c .before .before .before .before in
     let a = s e .args in
-    long sha256 (a .place) (a .size) (now (a .root)) (now (a .leaf1)) (now (a .path1)) (now (a .leaf2)) (now (a .path2)) (length (now (a .pair))) (l e .inclusion-verdict .ensures) (e .before .before .if1 .left) (e .before .inclusion-verdict2 .ensures) (e .if2 .left) (c .before .before .before .if3 .left)
+    long (hashOf (a .alg)) (a .place) (a .size) (now (a .root)) (now (a .leaf1)) (now (a .path1)) (now (a .leaf2)) (now (a .path2)) (length (now (a .pair))) (l e .inclusion-verdict .ensures) (e .before .before .if1 .left) (e .before .inclusion-verdict2 .ensures) (e .if2 .left) (c .before .before .before .if3 .left)
 
 inclusion-verdict-requires : tie.Need-inclusion-verdict-requires
 inclusion-verdict-requires c κs = search needs
@@ -65,7 +65,7 @@ inclusion-verdict-requires c κs = search needs
 returns : tie.Need-returns
 returns c =
     let a = S (c .before) .args in
-    reports-refused (now (a .pair)) (first-refused sha256 (a .place) (a .size) (now (a .root)) (now (a .leaf1)) (now (a .path1)) (now (a .leaf2)) (now (a .path2)) (length (now (a .pair))) (c .before .inclusion-verdict .ensures) (c .if1 .taken))
+    reports-refused (now (a .pair)) (first-refused (hashOf (a .alg)) (a .place) (a .size) (now (a .root)) (now (a .leaf1)) (now (a .path1)) (now (a .leaf2)) (now (a .path2)) (length (now (a .pair))) (c .before .inclusion-verdict .ensures) (c .if1 .taken))
 
 inclusion-verdict-requires-2 : tie.Need-inclusion-verdict-requires-2
 inclusion-verdict-requires-2 c κs = search needs
@@ -74,13 +74,13 @@ returns-2 : tie.Need-returns-2
 returns-2 c =
     let l = c .before .before .before in
     let a = S l .args in
-    reports-refused (now (a .pair)) (second-refused sha256 (a .place) (a .size) (now (a .root)) (now (a .leaf1)) (now (a .path1)) (now (a .leaf2)) (now (a .path2)) (length (now (a .pair))) (l .inclusion-verdict .ensures) (c .before .before .if1 .left) (c .before .inclusion-verdict2 .ensures) (c .if2 .taken))
+    reports-refused (now (a .pair)) (second-refused (hashOf (a .alg)) (a .place) (a .size) (now (a .root)) (now (a .leaf1)) (now (a .path1)) (now (a .leaf2)) (now (a .path2)) (length (now (a .pair))) (l .inclusion-verdict .ensures) (c .before .before .if1 .left) (c .before .inclusion-verdict2 .ensures) (c .if2 .taken))
 
 returns-3 : tie.Need-returns-3
 returns-3 c =
     let e = c .before in
     let a = s e .args in
-    reports-refused (now (a .pair)) (short sha256 (a .place) (a .size) (now (a .root)) (now (a .leaf1)) (now (a .path1)) (now (a .leaf2)) (now (a .path2)) (length (now (a .pair))) (l e .inclusion-verdict .ensures) (e .before .before .if1 .left) (e .before .inclusion-verdict2 .ensures) (e .if2 .left) (c .if3 .taken))
+    reports-refused (now (a .pair)) (short (hashOf (a .alg)) (a .place) (a .size) (now (a .root)) (now (a .leaf1)) (now (a .path1)) (now (a .leaf2)) (now (a .path2)) (length (now (a .pair))) (l e .inclusion-verdict .ensures) (e .before .before .if1 .left) (e .before .inclusion-verdict2 .ensures) (e .if2 .left) (c .if3 .taken))
 
 node-at-requires : tie.Need-node-at-requires
 node-at-requires c κs = search needs

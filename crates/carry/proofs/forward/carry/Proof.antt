@@ -8,8 +8,8 @@ use lib.ListN.{length, take, drop}
 use denote.Ref.{now}
 use borrow.Author.Needs.{needs}
 use borrow.Author.Tests.{not-true, not-false}
-use Rattle.hash.specs.Digest.{sha256}
-use Rattle.hash.proofs.Promises.{sha256-length}
+use Rattle.hash.specs.Digest.{hashOf}
+use Rattle.hash.proofs.Promises.{hash-length}
 use Rattle.tree.specs.Count.{inclusionCount, consistencyCount}
 use Rattle.tree.specs.Joined.{nodes}
 use Rattle.octets.specs.Bytes.{joined}
@@ -49,16 +49,16 @@ module _ (c : tie.Else2) where
   abbrev w : Walked
   w = l .walk .result
 
-  accepted : (inclusionVerdict sha256 (now (s .args .leaf)) (s .args .place) (s .args .m) (now (s .args .old)) (now (s .args .path)) ≡ 0)
-      × (consistencyVerdict sha256 (s .args .m) (s .args .n) (now (s .args .old)) (now (s .args .new)) (now (s .args .proof)) ≡ 0)
+  accepted : (inclusionVerdict (hashOf (s .args .alg)) (now (s .args .leaf)) (s .args .place) (s .args .m) (now (s .args .old)) (now (s .args .path)) ≡ 0)
+      × (consistencyVerdict (hashOf (s .args .alg)) (s .args .m) (s .args .n) (now (s .args .old)) (now (s .args .new)) (now (s .args .proof)) ≡ 0)
   accepted =
       let r = c .before .agree in
       let e = l .walk .ensures in
-      accepted-by sha256 (now (s .args .leaf)) (s .args .place) (s .args .m) (s .args .n) (now (s .args .old)) (now (s .args .new)) (now (s .args .path)) (now (s .args .proof)) (fit-at (l .before .before .before)) (l .before .before .node-at .ensures) (l .before .node-at2 .ensures)
+      accepted-by (hashOf (s .args .alg)) (now (s .args .leaf)) (s .args .place) (s .args .m) (s .args .n) (now (s .args .old)) (now (s .args .new)) (now (s .args .path)) (now (s .args .proof)) (fit-at (l .before .before .before)) (l .before .before .node-at .ensures) (l .before .node-at2 .ensures)
       (e .0) (e .1 .0) (e .1 .1 .0) (r .ensures .0 (not-false (r .result) (c .if2 .left)))
 
   two : Both (now (s .args .leaf)) (s .args .place) (s .args .m) (s .args .n) (now (s .args .old)) (now (s .args .path)) (now (s .args .proof))
-  two = both sha256 (now (s .args .leaf)) (s .args .place) (s .args .m) (s .args .n) (now (s .args .old)) (now (s .args .new)) (now (s .args .path)) (now (s .args .proof)) (sym (accepted .0)) refl (sym (accepted .1)) refl
+  two = both (hashOf (s .args .alg)) (now (s .args .leaf)) (s .args .place) (s .args .m) (s .args .n) (now (s .args .old)) (now (s .args .new)) (now (s .args .path)) (now (s .args .proof)) (sym (accepted .0)) refl (sym (accepted .1)) refl
 
   within : (w .low ≤ length (now (s .args .path)) / 32) × (w .hashed ≤ 1) × (w .high ≤ length (now (s .args .proof)) / 32)
   within = l .walk .ensures .1 .1 .1 .1 .1
@@ -66,18 +66,18 @@ module _ (c : tie.Else2) where
   whole : length (now (s .args .proof)) ≡ 32 * (length (now (s .args .proof)) / 32)
   whole = omega (arith, two .proof-length, two .proof-count)
 
-  difference : differenceOf (w .recomputed) ≡ conflict sha256 (s .args .m) (s .args .n) (s .args .place) (now (s .args .leaf)) (nodes (now (s .args .path))) (now (s .args .old)) (nodes (now (s .args .proof)))
-  difference = difference-walked sha256 (now (s .args .leaf)) (s .args .place) (s .args .m) (s .args .n) (now (s .args .old)) (now (s .args .path)) (now (s .args .proof)) two (l .before .before .node-at .ensures) (l .before .node-at2 .ensures) (l .walk .ensures .1 .1 .1 .0)
+  difference : differenceOf (w .recomputed) ≡ conflict (hashOf (s .args .alg)) (s .args .m) (s .args .n) (s .args .place) (now (s .args .leaf)) (nodes (now (s .args .path))) (now (s .args .old)) (nodes (now (s .args .proof)))
+  difference = difference-walked (hashOf (s .args .alg)) (now (s .args .leaf)) (s .args .place) (s .args .m) (s .args .n) (now (s .args .old)) (now (s .args .path)) (now (s .args .proof)) two (l .before .before .node-at .ensures) (l .before .node-at2 .ensures) (l .walk .ensures .1 .1 .1 .0)
 
   new-nodes : pathFrom (w .low) (w .hashed) (w .sibling .bytes) (w .high) (now (s .args .path)) (now (s .args .proof)) (length (now (s .args .proof)) / 32)
-      ≡ forward sha256 (s .args .m) (s .args .n) (s .args .place) (nodes (now (s .args .path))) (now (s .args .old)) (nodes (now (s .args .proof)))
+      ≡ forward (hashOf (s .args .alg)) (s .args .m) (s .args .n) (s .args .place) (nodes (now (s .args .path))) (now (s .args .old)) (nodes (now (s .args .proof)))
   unfolding pathAs
-  new-nodes = path-walked sha256 (now (s .args .leaf)) (s .args .place) (s .args .m) (s .args .n) (now (s .args .old)) (now (s .args .path)) (now (s .args .proof)) two (l .before .before .node-at .ensures) (l .before .node-at2 .ensures) (l .walk .ensures .1 .1 .1 .1 .0)
+  new-nodes = path-walked (hashOf (s .args .alg)) (now (s .args .leaf)) (s .args .place) (s .args .m) (s .args .n) (now (s .args .old)) (now (s .args .path)) (now (s .args .proof)) two (l .before .before .node-at .ensures) (l .before .node-at2 .ensures) (l .walk .ensures .1 .1 .1 .1 .0)
 
   number : w .low + w .hashed + (length (now (s .args .proof)) / 32 - w .high) ≡ inclusionCount (s .args .place) (s .args .n)
   number =
       sym (counted-pieces (w .low) (w .hashed) (w .sibling .bytes) (w .high) (now (s .args .path)) (now (s .args .proof)) (length (now (s .args .proof)) / 32) whole (within .2))
-      ∙ ap length new-nodes ∙ new-path sha256 sha256-length (now (s .args .leaf)) (s .args .place) (s .args .m) (s .args .n) (now (s .args .old)) (now (s .args .new)) (now (s .args .path)) (now (s .args .proof)) (accepted .0) (accepted .1) .1
+      ∙ ap length new-nodes ∙ new-path (hashOf (s .args .alg)) (hash-length (s .args .alg)) (now (s .args .leaf)) (s .args .place) (s .args .m) (s .args .n) (now (s .args .old)) (now (s .args .new)) (now (s .args .path)) (now (s .args .proof)) (accepted .0) (accepted .1) .1
 
 fits-requires : tie.Need-fits-requires
 fits-requires c κs = search needs
@@ -89,8 +89,8 @@ returns : tie.Need-returns
 returns c =
     let f = c .before .before in
     let a = S f .args in
-    let t = reports-refused (now (a .out)) (now (a .pair)) (one-refused sha256 (now (a .leaf)) (a .place) (a .m) (a .n) (now (a .old)) (now (a .new)) (now (a .path)) (now (a .proof)) (length (now (a .out))) (length (now (a .pair)))
-    (λ v w. false≢true (sym (not-true (f .fits2 .result) (c .before .if1 .taken)) ∙ f .fits2 .ensures .1 (fit-of sha256 (now (a .leaf)) (a .place) (a .m) (a .n) (now (a .old)) (now (a .new)) (now (a .path)) (now (a .proof)) v w)))) in
+    let t = reports-refused (now (a .out)) (now (a .pair)) (one-refused (hashOf (a .alg)) (now (a .leaf)) (a .place) (a .m) (a .n) (now (a .old)) (now (a .new)) (now (a .path)) (now (a .proof)) (length (now (a .out))) (length (now (a .pair)))
+    (λ v w. false≢true (sym (not-true (f .fits2 .result) (c .before .if1 .taken)) ∙ f .fits2 .ensures .1 (fit-of (hashOf (a .alg)) (now (a .leaf)) (a .place) (a .m) (a .n) (now (a .old)) (now (a .new)) (now (a .path)) (now (a .proof)) v w)))) in
     (c .refusal .ensures ∙ t .0, t .1)
 
 node-at-requires : tie.Need-node-at-requires
@@ -119,8 +119,8 @@ returns-2 c =
     let l = W r in
     let a = S (F l) .args in
     let e = l .walk .ensures in
-    let t = reports-refused (now (a .out)) (now (a .pair)) (one-refused sha256 (now (a .leaf)) (a .place) (a .m) (a .n) (now (a .old)) (now (a .new)) (now (a .path)) (now (a .proof)) (length (now (a .out))) (length (now (a .pair)))
-    (λ v w. false≢true (sym (not-true (r .agree .result) (c .before .if2 .taken)) ∙ r .agree .ensures .1 (agree-of sha256 (now (a .leaf)) (a .place) (a .m) (a .n) (now (a .old)) (now (a .new)) (now (a .path)) (now (a .proof)) (fit-at (l .before .before .before)) (l .before .before .node-at .ensures) (l .before .node-at2 .ensures) (e .0) (e .1 .0) (e .1 .1 .0) v w)))) in
+    let t = reports-refused (now (a .out)) (now (a .pair)) (one-refused (hashOf (a .alg)) (now (a .leaf)) (a .place) (a .m) (a .n) (now (a .old)) (now (a .new)) (now (a .path)) (now (a .proof)) (length (now (a .out))) (length (now (a .pair)))
+    (λ v w. false≢true (sym (not-true (r .agree .result) (c .before .if2 .taken)) ∙ r .agree .ensures .1 (agree-of (hashOf (a .alg)) (now (a .leaf)) (a .place) (a .m) (a .n) (now (a .old)) (now (a .new)) (now (a .path)) (now (a .proof)) (fit-at (l .before .before .before)) (l .before .before .node-at .ensures) (l .before .node-at2 .ensures) (e .0) (e .1 .0) (e .1 .1 .0) v w)))) in
     (c .refusal2 .ensures ∙ t .0, t .1)
 
 add-if3 : tie.Need-add-if3
@@ -137,14 +137,14 @@ returns-3 c =
     let e = c .before in
     let a = s e .args in
     let y = accepted e in
-    reports-refused (now (a .out)) (now (a .pair)) (path-short sha256 (now (a .leaf)) (a .place) (a .m) (a .n) (now (a .old)) (now (a .new)) (now (a .path)) (now (a .proof)) (length (now (a .out))) (length (now (a .pair))) (sym (y .0)) refl (sym (y .1)) refl (omega (arith, number e, c .if3 .taken)))
+    reports-refused (now (a .out)) (now (a .pair)) (path-short (hashOf (a .alg)) (now (a .leaf)) (a .place) (a .m) (a .n) (now (a .old)) (now (a .new)) (now (a .path)) (now (a .proof)) (length (now (a .out))) (length (now (a .pair))) (sym (y .0)) refl (sym (y .1)) refl (omega (arith, number e, c .if3 .taken)))
 
 returns-4 : tie.Need-returns-4
 returns-4 c =
     let e = c .before .before in
     let a = s e .args in
     let y = accepted e in
-    reports-refused (now (a .out)) (now (a .pair)) (pair-short sha256 (now (a .leaf)) (a .place) (a .m) (a .n) (now (a .old)) (now (a .new)) (now (a .path)) (now (a .proof)) (length (now (a .out))) (length (now (a .pair))) (sym (y .0)) refl (sym (y .1)) refl (omega (arith, number e, c .before .if3 .left)) (c .if4 .taken))
+    reports-refused (now (a .out)) (now (a .pair)) (pair-short (hashOf (a .alg)) (now (a .leaf)) (a .place) (a .m) (a .n) (now (a .old)) (now (a .new)) (now (a .path)) (now (a .proof)) (length (now (a .out))) (length (now (a .pair))) (sym (y .0)) refl (sym (y .1)) refl (omega (arith, number e, c .before .if3 .left)) (c .if4 .taken))
 
 put-pair-requires : tie.Need-put-pair-requires
 put-pair-requires c κs = omega (arith, c .before .before .before .before .before .before .if4 .left)
@@ -159,7 +159,7 @@ returns-5 c =
     let e = r .before .before in
     let a = s e .args in
     let y = accepted e in
-    let g = long sha256 (now (a .leaf)) (a .place) (a .m) (a .n) (now (a .old)) (now (a .new)) (now (a .path)) (now (a .proof)) (length (now (a .out))) (length (now (a .pair))) (sym (y .0)) refl (sym (y .1)) refl (omega (arith, number e, r .before .if3 .left)) (r .if4 .left) in
+    let g = long (hashOf (a .alg)) (now (a .leaf)) (a .place) (a .m) (a .n) (now (a .old)) (now (a .new)) (now (a .path)) (now (a .proof)) (length (now (a .out))) (length (now (a .pair))) (sym (y .0)) refl (sym (y .1)) refl (omega (arith, number e, r .before .if3 .left)) (r .if4 .left) in
     reports-apart _ (now (a .out)) (now (a .pair)) g (sym (difference e) ∙ difference-apart (w e .recomputed) (t .if5 .taken)) (c .before .before .put-pair .ensures)
 
 put-path-requires : tie.Need-put-path-requires
@@ -181,7 +181,7 @@ returns-6 c =
     let a = s e .args in
     let w = w e in
     let y = accepted e in
-    let g = long sha256 (now (a .leaf)) (a .place) (a .m) (a .n) (now (a .old)) (now (a .new)) (now (a .path)) (now (a .proof)) (length (now (a .out))) (length (now (a .pair))) (sym (y .0)) refl (sym (y .1)) refl (omega (arith, number e, r .before .if3 .left)) (r .if4 .left) in
+    let g = long (hashOf (a .alg)) (now (a .leaf)) (a .place) (a .m) (a .n) (now (a .old)) (now (a .new)) (now (a .path)) (now (a .proof)) (length (now (a .out))) (length (now (a .pair))) (sym (y .0)) refl (sym (y .1)) refl (omega (arith, number e, r .before .if3 .left)) (r .if4 .left) in
     let u = take (32 * w .low) (now (a .path)) ++ (take (32 * w .hashed) (w .sibling .bytes) ++ drop (32 * w .high) (now (a .proof))) in
     let b = ap joined (sym (new-nodes e)) ∙ pieces (w .low) (w .hashed) (w .sibling .bytes) (w .high) (now (a .path)) (now (a .proof)) (length (now (a .proof)) / 32) (whole e) (within e .2) in
     reports-path u (now (a .out)) (now (a .pair)) g (sym (difference e) ∙ difference-alike (w .recomputed) (t .if5 .left)) b (c .before .before .put-path .ensures .0) (c .before .before .put-path .ensures .1)

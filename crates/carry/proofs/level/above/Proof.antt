@@ -1,7 +1,7 @@
 -- `carry::level::above` meets its contract: two pairs that are the same, and two that differ. Assumes nothing.
 use mathlib.Core.Path.{sym, ap, _∙_}
 use borrow.Author.Needs.{needs}
-use Rattle.hash.specs.Digest.{sha256}
+use Rattle.hash.specs.Digest.{hashOf}
 use Rattle.octets.proofs.Sameness.{same-true}
 use Rattle.carry.specs.Inner.{differenceOf}
 use Rattle.carry.proofs.Pairing.{top-same, top-apart}
@@ -19,7 +19,7 @@ unfolding differenceOf
 returns c =
     let e = sym (c .before .before .before .before .before .pairs .ensures) ∙ c .before .before .before .before .if1 .taken in
     let n = c .before .before .before .before .before .before .node .ensures in
-    ((n, n ∙ ap sha256 (same-true _ _ e)), sym (top-same _ _ _ e))
+    ((n, n ∙ ap (hashOf _) (same-true _ _ e)), sym (top-same _ _ _ e))
 
 node-requires-2 : tie.Need-node-requires-2
 node-requires-2 c κs = search needs

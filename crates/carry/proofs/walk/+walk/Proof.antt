@@ -5,8 +5,8 @@ use Prim.Native.Nat.{ℕ, _-_, _<_}
 use native.Mathlib.Omega.{arith}
 use lib.ListN.{length}
 use denote.Ref.{now}
-use Rattle.hash.specs.Digest.{sha256}
-use Rattle.hash.proofs.Promises.{sha256-length}
+use Rattle.hash.specs.Digest.{hashOf}
+use Rattle.hash.proofs.Promises.{hash-length}
 use Rattle.tree.specs.Split.{split}
 use Rattle.tree.specs.Joined.{firstNodes}
 use Rattle.tree.proofs.Joining.{All32, all-from, first-length, hash-in}
@@ -34,7 +34,7 @@ use Rattle.carry.proofs.walk.+walk.{statement}
 use Rattle.carry.proofs.walk.+walk.Tie.{close}
 
 abbrev μ-walk : Measures 2 walk-kinds.ps ℕ
-μ-walk κs a = a .1 .1 .1 .0
+μ-walk κs a = a .1 .1 .1 .1 .0
 
 abbrev walk-at : ℕ → In 2 walk-kinds.ps
 walk-at t = and 2 walk-kinds.ps (is 2 walk-kinds.ps μ-walk t) walk.Pre
@@ -94,10 +94,10 @@ walk-returns t c =
     let z : 0 < a .m = omega arith in
     let k : ℕ = 0 in
     let s = c .start .ensures in
-    let y = yielded-in sha256 (a .x) (a .m) (a .leaf .bytes) (now (a .path)) (a .p) (start .pre .1 .2) (start .pre .1 .3) (c .before .before .before .before .yielded-root .ensures) in
-    let r = both-in sha256 (a .m) (a .n) (a .first .bytes) (now (a .proof)) (a .known) (a .q) z (start .pre .1 .1) (start .pre .1 .4) (start .pre .1 .5) (c .before .before .before .yielded-roots .ensures) in (
+    let y = yielded-in (hashOf (a .alg)) (a .x) (a .m) (a .leaf .bytes) (now (a .path)) (a .p) (start .pre .1 .2) (start .pre .1 .3) (c .before .before .before .before .yielded-root .ensures) in
+    let r = both-in (hashOf (a .alg)) (a .m) (a .n) (a .first .bytes) (now (a .proof)) (a .known) (a .q) z (start .pre .1 .1) (start .pre .1 .4) (start .pre .1 .5) (c .before .before .before .yielded-roots .ensures) in (
       s .0 .0 ∙ y,
-      (s .0 .1 ∙ r .0, (r .1, (walked-all sha256 (a .x) (a .m) (a .n) k (a .leaf .bytes) (a .first .bytes) (a .p) (a .q) (now (a .path)) (now (a .proof)) z e (s .1), (path-all sha256 (a .x) (a .m) (a .n) k (a .leaf .bytes) (a .first .bytes) (a .p) (a .q) (now (a .path)) (now (a .proof)) z (c .before .before .before .yielded-roots .result .new .bytes) e, (omega arith, omega arith, omega arith))))),
+      (s .0 .1 ∙ r .0, (r .1, (walked-all (hashOf (a .alg)) (a .x) (a .m) (a .n) k (a .leaf .bytes) (a .first .bytes) (a .p) (a .q) (now (a .path)) (now (a .proof)) z e (s .1), (path-all (hashOf (a .alg)) (a .x) (a .m) (a .n) k (a .leaf .bytes) (a .first .bytes) (a .p) (a .q) (now (a .path)) (now (a .proof)) z (c .before .before .before .yielded-roots .result .new .bytes) e, (omega arith, omega arith, omega arith))))),
     )
 
 walk-split-of-requires : (t : ℕ) → walk-lts.Need-split-of-requires (calls t) (walk-at t) walk.Post
@@ -138,12 +138,12 @@ walk-returns-2 t c =
     let o = b .1 .1 .1 .1 .1 in (
       b .0,
       (
-        old-low sha256 (a .m) (a .n) k (a .first .bytes) (a .q) (now (a .proof)) (a .known) z some lt e l (b .1 .0),
+        old-low (hashOf (a .alg)) (a .m) (a .n) k (a .first .bytes) (a .q) (now (a .proof)) (a .known) z some lt e l (b .1 .0),
         (
-          new-low sha256 (a .m) (a .n) k (a .first .bytes) (a .q) (now (a .proof)) (a .known) z some lt e l (c .node .ensures) (b .1 .1 .0) top,
+          new-low (hashOf (a .alg)) (a .m) (a .n) k (a .first .bytes) (a .q) (now (a .proof)) (a .known) z some lt e l (c .node .ensures) (b .1 .1 .0) top,
           (
-            walked-low sha256 (a .x) (a .m) (a .n) k (a .leaf .bytes) (a .first .bytes) (a .p) (a .q) (now (a .path)) (now (a .proof)) z lt e some l (b .1 .1 .1 .0),
-            (path-low sha256 (a .x) (a .m) (a .n) k (a .leaf .bytes) (a .first .bytes) (a .p) (a .q) (now (a .path)) (now (a .proof)) z lt e some (w .low) (w .hashed) (w .sibling .bytes) (w .high) (omega (arith, o .2, some)) l (b .1 .1 .1 .1 .0), (omega (arith, o), omega (arith, o), omega (arith, o))),
+            walked-low (hashOf (a .alg)) (a .x) (a .m) (a .n) k (a .leaf .bytes) (a .first .bytes) (a .p) (a .q) (now (a .path)) (now (a .proof)) z lt e some l (b .1 .1 .1 .0),
+            (path-low (hashOf (a .alg)) (a .x) (a .m) (a .n) k (a .leaf .bytes) (a .first .bytes) (a .p) (a .q) (now (a .path)) (now (a .proof)) z lt e some (w .low) (w .hashed) (w .sibling .bytes) (w .high) (omega (arith, o .2, some)) l (b .1 .1 .1 .1 .0), (omega (arith, o), omega (arith, o), omega (arith, o))),
           ),
         ),
       ),
@@ -198,20 +198,20 @@ walk-returns-3 t c =
     let w = c .before .before .before .before .before .yielded-roots2 .result .new .bytes in
     let d = sub-high (a .m) (a .n) k (a .known) z lt e hi in
     let g = count-low (a .x) (a .m) k more same l in
-    let y = yielded-in sha256 (a .x) k (a .leaf .bytes) (now (a .path)) (a .p - 1) (omega (arith, g, start .pre .1 .2)) (omega (arith, start .pre .1 .3)) (c .before .before .before .before .before .before .yielded-root2 .ensures) in
-    let r = both-in sha256 (a .m - k) (a .n - k) (a .first .bytes) (now (a .proof)) false (a .q - 1) (omega (arith, hi)) (omega (arith, lt)) (omega (arith, d, start .pre .1 .4)) (omega (arith, start .pre .1 .5)) (c .before .before .before .before .before .yielded-roots2 .ensures) in
+    let y = yielded-in (hashOf (a .alg)) (a .x) k (a .leaf .bytes) (now (a .path)) (a .p - 1) (omega (arith, g, start .pre .1 .2)) (omega (arith, start .pre .1 .3)) (c .before .before .before .before .before .before .yielded-root2 .ensures) in
+    let r = both-in (hashOf (a .alg)) (a .m - k) (a .n - k) (a .first .bytes) (now (a .proof)) false (a .q - 1) (omega (arith, hi)) (omega (arith, lt)) (omega (arith, d, start .pre .1 .4)) (omega (arith, start .pre .1 .5)) (c .before .before .before .before .before .yielded-roots2 .ensures) in
     let nodes = firstNodes (a .q - 1) (now (a .proof)) in
     let all : All32 nodes = all-from 0 (a .q - 1) (now (a .proof)) (omega (arith, some, start .pre .1 .5)) in
-    let len = ap length (r .1) ∙ new-32 sha256 sha256-length (a .m - k) (a .n - k) false (a .first .bytes) nodes (omega (arith, hi)) (λ t. absurd (false≢true t)) all (first-length (a .q - 1) (now (a .proof)) ∙ omega (arith, d, start .pre .1 .4)) (omega (arith, lt)) in
+    let len = ap length (r .1) ∙ new-32 (hashOf (a .alg)) (hash-length (a .alg)) (a .m - k) (a .n - k) false (a .first .bytes) nodes (omega (arith, hi)) (λ t. absurd (false≢true t)) all (first-length (a .q - 1) (now (a .proof)) ∙ omega (arith, d, start .pre .1 .4)) (omega (arith, lt)) in
     let up = c .before .above .ensures in (
-      included-low sha256 (a .x) (a .m) k (a .leaf .bytes) (a .p) (now (a .path)) side more same (up .0 .0) l y beside,
+      included-low (hashOf (a .alg)) (a .x) (a .m) k (a .leaf .bytes) (a .p) (now (a .path)) side more same (up .0 .0) l y beside,
       (
-        old-high sha256 (a .m) (a .n) k (a .first .bytes) (a .q) (now (a .proof)) (a .known) z some lt e hi (up .0 .1) top (r .0),
+        old-high (hashOf (a .alg)) (a .m) (a .n) k (a .first .bytes) (a .q) (now (a .proof)) (a .known) z some lt e hi (up .0 .1) top (r .0),
         (
-          new-high sha256 (a .m) (a .n) k (a .first .bytes) (a .q) (now (a .proof)) (a .known) z some lt e hi (c .node2 .ensures) top (r .1),
+          new-high (hashOf (a .alg)) (a .m) (a .n) k (a .first .bytes) (a .q) (now (a .proof)) (a .known) z some lt e hi (c .node2 .ensures) top (r .1),
           (
-            walked-here sha256 (a .x) (a .m) (a .n) k (a .leaf .bytes) (a .first .bytes) (a .p) (a .q) (now (a .path)) (now (a .proof)) z lt e some hi side l (up .1) (c .before .before .start2 .ensures .1) y beside top (r .0),
-            (path-here sha256 (a .x) (a .m) (a .n) k (a .leaf .bytes) (a .first .bytes) (a .p) (a .q) (now (a .path)) (now (a .proof)) z lt e some w hi side l len (r .1), (omega arith, omega arith, omega arith)),
+            walked-here (hashOf (a .alg)) (a .x) (a .m) (a .n) k (a .leaf .bytes) (a .first .bytes) (a .p) (a .q) (now (a .path)) (now (a .proof)) z lt e some hi side l (up .1) (c .before .before .start2 .ensures .1) y beside top (r .0),
+            (path-here (hashOf (a .alg)) (a .x) (a .m) (a .n) k (a .leaf .bytes) (a .first .bytes) (a .p) (a .q) (now (a .path)) (now (a .proof)) z lt e some w hi side l len (r .1), (omega arith, omega arith, omega arith)),
           ),
         ),
       ),
@@ -262,15 +262,15 @@ walk-returns-4 t c =
     let b = c .before .before .before .before .before .before .before .walk2 .ensures in
     let o = b .1 .1 .1 .1 .1 in
     let up = c .before .above2 .ensures in (
-      included-high sha256 (a .x) (a .m) k (a .leaf .bytes) (a .p) (now (a .path)) side more same (up .0 .0) l beside (b .0),
+      included-high (hashOf (a .alg)) (a .x) (a .m) k (a .leaf .bytes) (a .p) (now (a .path)) side more same (up .0 .0) l beside (b .0),
       (
-        old-high sha256 (a .m) (a .n) k (a .first .bytes) (a .q) (now (a .proof)) (a .known) z some lt e hi (up .0 .1) top (b .1 .0),
+        old-high (hashOf (a .alg)) (a .m) (a .n) k (a .first .bytes) (a .q) (now (a .proof)) (a .known) z some lt e hi (up .0 .1) top (b .1 .0),
         (
-          new-high sha256 (a .m) (a .n) k (a .first .bytes) (a .q) (now (a .proof)) (a .known) z some lt e hi (c .node3 .ensures) top (b .1 .1 .0),
+          new-high (hashOf (a .alg)) (a .m) (a .n) k (a .first .bytes) (a .q) (now (a .proof)) (a .known) z some lt e hi (c .node3 .ensures) top (b .1 .1 .0),
           (
-            walked-beyond sha256 (a .x) (a .m) (a .n) k (a .leaf .bytes) (a .first .bytes) (a .p) (a .q) (now (a .path)) (now (a .proof)) z lt e some hi side l (up .1) beside (b .0) top (b .1 .0) (b .1 .1 .1 .0),
+            walked-beyond (hashOf (a .alg)) (a .x) (a .m) (a .n) k (a .leaf .bytes) (a .first .bytes) (a .p) (a .q) (now (a .path)) (now (a .proof)) z lt e some hi side l (up .1) beside (b .0) top (b .1 .0) (b .1 .1 .1 .0),
             (
-              path-beyond sha256 (a .x) (a .m) (a .n) k (a .leaf .bytes) (a .first .bytes) (a .p) (a .q) (now (a .path)) (now (a .proof)) z lt e some (w .low) (w .hashed) (w .sibling .bytes) (w .high) (omega (arith, o .2, some)) hi side l (b .1 .1 .1 .1 .0),
+              path-beyond (hashOf (a .alg)) (a .x) (a .m) (a .n) k (a .leaf .bytes) (a .first .bytes) (a .p) (a .q) (now (a .path)) (now (a .proof)) z lt e some (w .low) (w .hashed) (w .sibling .bytes) (w .high) (omega (arith, o .2, some)) hi side l (b .1 .1 .1 .1 .0),
               (omega (arith, o), omega (arith, o), omega (arith, o)),
             ),
           ),

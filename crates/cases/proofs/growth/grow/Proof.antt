@@ -6,10 +6,10 @@ use Rattle.cases.proofs.growth.grow.Statement.{statement}
 use Rattle.cases.proofs.growth.grow.Tie as tie
 
 abbrev Inv-loop : tie.InvT-loop
-Inv-loop calls lent₀ g₀ at₀ made₀ lent g at made = (made ≤ 1000) × (length lent ≡ length lent₀)
+Inv-loop algorithm calls lent₀ new g₀ at₀ made₀ lent g at made = (made ≤ 1000) × (length lent ≡ length lent₀)
 
 abbrev μ-loop : tie.MeasureT-loop
-μ-loop calls lent₀ g₀ at₀ made₀ lent g at made = 1000 - made
+μ-loop algorithm calls lent₀ new g₀ at₀ made₀ lent g at made = 1000 - made
 
 pub grow-spec : {M : Type 1} → statement M
 grow-spec =
@@ -24,12 +24,14 @@ grow-spec =
     (λ c κs. search needs)
     (λ c κs. search needs)
     (λ c κs. search needs)
+    (λ c κs. search needs)
     (λ c. search needs)
     (λ c. search needs)
     (λ c. search needs)
     (λ c. search needs)
     (λ c κs. search needs)
     (λ c κs. search needs)
+    (λ c. search needs)
     (λ c κs. search needs)
     (λ c. search needs)
     (λ c κs. search needs)

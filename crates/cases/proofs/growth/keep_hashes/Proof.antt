@@ -14,7 +14,7 @@ abbrev μ-loop : tie.MeasureT-loop
 μ-loop lent₀ hashes i₀ lent i = mostHashes - i
 
 loop-holds : tie.Need-loop-holds Inv-loop μ-loop
-loop-holds c = (search needs, sym (length-map (c .before .before .args .g .hashes) _) ∙ c .before .before .good .0 .1 .1 .0 .1 .0 .1, refl)
+loop-holds c = (search needs, sym (length-map (c .before .before .args .g .hashes) _) ∙ c .before .before .good .0 .1 .1 .1 .0 .1 .0 .1, refl)
 
 pub keep-hashes-spec : {M : Type 1} → statement M
 keep-hashes-spec =

@@ -8,10 +8,10 @@ use Rattle.cases.proofs.growth.tree_from.Statement.{statement}
 use Rattle.cases.proofs.growth.tree_from.Tie as tie
 
 abbrev Inv-loop : tie.InvT-loop
-Inv-loop s count hashes₀ i₀ hashes i = length hashes ≡ mostHashes
+Inv-loop algorithm s count hashes₀ i₀ hashes i = length hashes ≡ mostHashes
 
 abbrev μ-loop : tie.MeasureT-loop
-μ-loop s count hashes₀ i₀ hashes i = mostHashes - i
+μ-loop algorithm s count hashes₀ i₀ hashes i = mostHashes - i
 
 loop-again : tie.Need-loop-again Inv-loop μ-loop
 loop-again c = simp length-set (omega arith)

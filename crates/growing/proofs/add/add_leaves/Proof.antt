@@ -1,58 +1,35 @@
--- `growing::add::add_leaves` meets its contract: each return by the outcome that it gives. Assumes nothing.
-use mathlib.Core.Path.{_≡_, sym, ap, _∙_}
-use Prim.Native.Nat.{_/_}
-use native.Mathlib.Omega.{arith}
+-- `growing::add::add_leaves` meets its contract. Assumes nothing.
+use mathlib.Core.Path.{sym, _∙_}
 use borrow.Author.Needs.{needs}
 use denote.Ref.{now}
-use lib.ListN.{length}
-use Rattle.hash.specs.Digest.{sha256}
-use Rattle.growing.specs.Hashes.{withLeaves}
-use Rattle.growing.specs.Calls.{ofLeaves, roomNumber}
-use Rattle.growing.proofs.Adding.{room-6, room-fits, leaves-10, leaves-rest, refused-by, accepted-by, brought-leaves}
+use Rattle.growing.specs.Calls.{ofLeaves}
+use Rattle.growing.proofs.Adding.{grown-of}
+use Rattle.growing.proofs.Numbering.{grown-known, grown-none}
 use Rattle.growing.proofs.add.add_leaves.Statement.{statement}
 use Rattle.growing.proofs.add.add_leaves.Tie as tie
 
 returns : tie.Need-returns
 returns c =
-    let b = c .before .before in
-    let a = b .before .before .args in
-    let s = now (a .leaves) in
-    refused-by sha256 (c .refused .result) (a .g) (ofLeaves s) 9 (leaves-10 (a .g .count) s (sym (b .bad-leaves .ensures) ∙ c .before .if1 .taken)) (c .refused .ensures)
+    let named = c .before .before in
+    let held = named .before .before in
+    let a = held .before .before .args in
+    c .leaves-by .ensures ∙ grown-known (a .algorithm) (a .g) (ofLeaves (now (a .leaves))) _ (sym (named .named .given .1) ∙ held .algorithm-held .ensures)
 
 returns-2 : tie.Need-returns-2
 returns-2 c =
-    let d = c .before .before in
-    let b = d .before .before in
-    let a = b .before .before .args in
-    let s = now (a .leaves) in
-    let fit = sym (b .bad-leaves .ensures) ∙ d .before .if1 .left in
-    let full : roomNumber (a .g .count) (length s / 32) ≡ 0 → ⊥ = λ z. c .before .if2 .taken (d .room-number .ensures ∙ z) in
-    refused-by sha256 (c .refused2 .result) (a .g) (ofLeaves s) 5 (leaves-rest (a .g .count) s fit ∙ room-6 (a .g .count) (length s / 32) full) (c .refused2 .ensures)
-
-with-leaves-requires : tie.Need-with-leaves-requires
-with-leaves-requires c κs =
-    let a = c .before .before .before .before .before .args in
-    let f = room-fits (a .g .count) (length (now (a .leaves)) / 32) (sym (c .before .room-number .ensures) ∙ c .if2 .left) in
-    (omega arith, omega arith)
-
-returns-3 : tie.Need-returns-3
-returns-3 c =
-    let a = c .before .before .before .before .before .before .args in
-    let s = now (a .leaves) in
-    let fit = sym (c .before .before .before .before .bad-leaves .ensures) ∙ c .before .before .before .if1 .left in
-    let room : roomNumber (a .g .count) (length s / 32) ≡ 0 = sym (c .before .before .room-number .ensures) ∙ c .before .if2 .left in
-    accepted-by sha256 (c .with-leaves .result) (a .g) (ofLeaves s) (leaves-rest (a .g .count) s fit ∙ room)
-    (c .with-leaves .ensures ∙ ap (withLeaves sha256 (a .g)) (sym (brought-leaves sha256 s)))
+    let held = c .before .before .before in
+    let a = held .before .before .args in
+    grown-of (c .refused .result) 16 (a .g) (c .refused .ensures .0) (c .refused .ensures .1)
+    ∙ grown-none (a .algorithm) (a .g) (ofLeaves (now (a .leaves))) (sym (c .before .enum-told .given .1) ∙ held .algorithm-held .ensures)
 
 pub add-leaves-spec : {M : Type 1} → statement M
 add-leaves-spec =
     tie.close
     (tie.spec
     (λ c κs. search needs)
+    (λ c. search needs)
+    (λ c κs. search needs)
+    (λ c. search needs)
     (λ c κs. search needs)
     returns
-    (λ c κs. search needs)
-    (λ c κs. search needs)
-    returns-2
-    with-leaves-requires
-    returns-3)
+    returns-2)

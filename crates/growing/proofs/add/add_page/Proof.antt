@@ -1,61 +1,35 @@
--- `growing::add::add_page` meets its contract: each return by the outcome that it gives. Assumes nothing.
-use mathlib.Core.Path.{_≡_, sym, ap, _∙_}
-use native.Mathlib.Omega.{arith}
+-- `growing::add::add_page` meets its contract. Assumes nothing.
+use mathlib.Core.Path.{sym, _∙_}
 use borrow.Author.Needs.{needs}
 use denote.Ref.{now}
-use lib.ListN.{length}
-use Rattle.hash.specs.Digest.{sha256}
-use Rattle.octets.specs.Limits.{mostItem}
-use Rattle.hash.specs.Answers.{valueNumber}
-use Rattle.hash.proofs.Promises.{sha256-length}
-use Rattle.tree.specs.Tree.{leaf}
-use Rattle.growing.specs.Hashes.{withLeaves}
-use Rattle.growing.specs.Calls.{ofPage, roomNumber}
-use Rattle.growing.proofs.Adding.{room-6, room-fits, page-1, page-rest, refused-by, accepted-by, brought-page}
-use Rattle.growing.proofs.OfSha256.{leaf-value, leaf-32}
+use Rattle.growing.specs.Calls.{ofPage}
+use Rattle.growing.proofs.Adding.{grown-of}
+use Rattle.growing.proofs.Numbering.{grown-known, grown-none}
 use Rattle.growing.proofs.add.add_page.Statement.{statement}
 use Rattle.growing.proofs.add.add_page.Tie as tie
 
 returns : tie.Need-returns
 returns c =
-    let b = c .before .before .before in
-    let a = b .before .before .args in
-    let s = now (a .page) in
-    let long : valueNumber mostItem s ≡ 0 → ⊥ = λ z. c .before .if1 .taken (b .leaf .ensures .0 ∙ z) in
-    refused-by sha256 (c .refused .result) (a .g) (ofPage s) 0 (page-1 (a .g .count) s long) (c .refused .ensures)
+    let named = c .before .before in
+    let held = named .before .before in
+    let a = held .before .before .args in
+    c .page-by .ensures ∙ grown-known (a .algorithm) (a .g) (ofPage (now (a .page))) _ (sym (named .named .given .1) ∙ held .algorithm-held .ensures)
 
 returns-2 : tie.Need-returns-2
 returns-2 c =
-    let d = c .before .before in
-    let b = d .before .before .before in
-    let a = b .before .before .args in
-    let s = now (a .page) in
-    let short : valueNumber mostItem s ≡ 0 = sym (b .leaf .ensures .0) ∙ d .before .if1 .left in
-    let full : roomNumber (a .g .count) 1 ≡ 0 → ⊥ = λ z. c .before .if2 .taken (d .room-number .ensures ∙ z) in
-    refused-by sha256 (c .refused2 .result) (a .g) (ofPage s) 5 (page-rest (a .g .count) s short ∙ room-6 (a .g .count) 1 full) (c .refused2 .ensures)
-
-with-leaves-requires : tie.Need-with-leaves-requires
-with-leaves-requires c κs =
-    let a = c .before .before .before .before .before .before .before .before .args in
-    let s = now (a .page) in
-    let l = c .before .before .before .before .before .before .leaf in
-    let short : valueNumber mostItem s ≡ 0 = sym (l .ensures .0) ∙ c .before .before .before .before .if1 .left in
-    let f = room-fits (a .g .count) 1 (sym (c .before .before .before .room-number .ensures) ∙ c .before .before .if2 .left) in
-    let w = leaf-32 s (l .result .digest .bytes) (leaf-value s (l .result .digest .bytes) short (l .ensures .1)) in
-    (omega arith, omega arith)
-
-returns-3 : tie.Need-returns-3
-returns-3 c =
-    let a = c .before .before .before .before .before .before .before .before .before .args in
-    let s = now (a .page) in
-    let l = c .before .before .before .before .before .before .before .leaf in
-    let short : valueNumber mostItem s ≡ 0 = sym (l .ensures .0) ∙ c .before .before .before .before .before .if1 .left in
-    let room : roomNumber (a .g .count) 1 ≡ 0 = sym (c .before .before .before .before .room-number .ensures) ∙ c .before .before .before .if2 .left in
-    let v = leaf-value s (l .result .digest .bytes) short (l .ensures .1) in
-    accepted-by sha256 (c .with-leaves .result) (a .g) (ofPage s) (page-rest (a .g .count) s short ∙ room)
-    (c .with-leaves .ensures ∙ ap (withLeaves sha256 (a .g)) (brought-page sha256 s (l .result .digest .bytes) (leaf-32 s (l .result .digest .bytes) v) v))
+    let held = c .before .before .before in
+    let a = held .before .before .args in
+    grown-of (c .refused .result) 16 (a .g) (c .refused .ensures .0) (c .refused .ensures .1)
+    ∙ grown-none (a .algorithm) (a .g) (ofPage (now (a .page))) (sym (c .before .enum-told .given .1) ∙ held .algorithm-held .ensures)
 
 pub add-page-spec : {M : Type 1} → statement M
 add-page-spec =
     tie.close
-    (tie.spec (λ c κs. search needs) (λ c κs. search needs) returns (λ c κs. search needs) (λ c κs. search needs) returns-2 (λ c. search needs) with-leaves-requires returns-3)
+    (tie.spec
+    (λ c κs. search needs)
+    (λ c. search needs)
+    (λ c κs. search needs)
+    (λ c. search needs)
+    (λ c κs. search needs)
+    returns
+    returns-2)

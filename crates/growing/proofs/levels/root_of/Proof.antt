@@ -4,7 +4,7 @@ use Prim.Native.Nat.{_-_, _≤_}
 use native.Mathlib.Omega.{arith}
 use borrow.Author.Needs.{needs}
 use lib.ListN.{length, drop, length-map}
-use Rattle.hash.specs.Digest.{sha256}
+use Rattle.hash.specs.Digest.{hashOf}
 use Rattle.tree.specs.Full.{together}
 use Rattle.growing.specs.Limits.{mostHashes}
 use Rattle.growing.specs.Hashes.{counting}
@@ -13,20 +13,21 @@ use Rattle.growing.proofs.levels.root_of.Statement.{statement}
 use Rattle.growing.proofs.levels.root_of.Tie as tie
 
 abbrev Inv-loop : tie.InvT-loop
-Inv-loop g hashes n₀ i₀ n i = (i ≤ mostHashes) × (length hashes ≡ mostHashes) × (counting hashes n₀ ≡ counting (drop i hashes) n)
+Inv-loop alg g hashes n₀ i₀ n i = (i ≤ mostHashes) × (length hashes ≡ mostHashes) × (counting hashes n₀ ≡ counting (drop i hashes) n)
 
 abbrev μ-loop : tie.MeasureT-loop
-μ-loop g hashes n₀ i₀ n i = mostHashes - i
+μ-loop alg g hashes n₀ i₀ n i = mostHashes - i
 
 loop-holds : tie.Need-loop-holds Inv-loop μ-loop
-loop-holds c = (search needs, sym (length-map (c .before .args .g .hashes) _) ∙ c .before .good .0 .1 .1 .0 .1 .0 .1, refl)
+loop-holds c = (search needs, sym (length-map (c .before .args .g .hashes) _) ∙ c .before .good .1 .0 .1 .1 .1 .0 .1 .0 .1, refl)
 
 returns : tie.Need-returns Inv-loop μ-loop
 returns c =
     let l = c .before .before .before .before .loop in
-    let g = c .before .before .before .before .before .before .args .g in
+    let a = c .before .before .before .before .before .before .args in
+    let g = a .g in
     c .root-above .ensures
-    ∙ sym (root-now-of sha256 g ∙ ap (together sha256) (l .inv .2 ∙ counting-odd (g .hashes) (l .i) (l .n) (omega arith) (λ z. omega arith)))
+    ∙ sym (root-now-of (hashOf (a .alg)) g ∙ ap (together (hashOf (a .alg))) (l .inv .2 ∙ counting-odd (g .hashes) (l .i) (l .n) (omega arith) (λ z. omega arith)))
 
 loop-again : tie.Need-loop-again Inv-loop μ-loop
 loop-again c =
@@ -37,9 +38,10 @@ loop-again c =
 returns-2 : tie.Need-returns-2 Inv-loop μ-loop
 returns-2 c =
     let l = c .before .before .loop in
-    let g = c .before .before .before .before .args .g in
+    let a = c .before .before .before .before .args in
+    let g = a .g in
     c .empty .ensures
-    ∙ sym (root-now-of sha256 g ∙ ap (together sha256) (l .inv .2 ∙ counting-end (g .hashes) (l .i) (l .n) (omega arith)) ∙ together-none sha256)
+    ∙ sym (root-now-of (hashOf (a .alg)) g ∙ ap (together (hashOf (a .alg))) (l .inv .2 ∙ counting-end (g .hashes) (l .i) (l .n) (omega arith)) ∙ together-none (hashOf (a .alg)))
 
 pub root-of-spec : {M : Type 1} → statement M
 root-of-spec =

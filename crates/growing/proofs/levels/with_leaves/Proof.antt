@@ -8,7 +8,7 @@ use native.Mathlib.Omega.{arith}
 use borrow.Author.Needs.{needs}
 use denote.Ref.{now}
 use lib.ListN.{length, take, drop, getD, set, length-map, length-set}
-use Rattle.hash.specs.Digest.{sha256}
+use Rattle.hash.specs.Digest.{hashOf}
 use Rattle.hash.specs.declared.Digest.{Digest}
 use Rattle.tree.specs.Joined.{firstNodes, nodeAt}
 use Rattle.tree.proofs.Joining.{hash-in}
@@ -18,44 +18,45 @@ use Rattle.growing.specs.Hashes.{digest, nothing, parent, merged, withLe
 use Rattle.growing.proofs.Stepping.{past, grown, merged-here, merged-up, merged-end, with-leaf-of}
 use Rattle.growing.proofs.Holding.{merged-length}
 use Rattle.growing.proofs.Adding.{with-none, with-next}
-use Rattle.growing.proofs.OfSha256.{node-parent}
+use Rattle.growing.proofs.OfHash.{node-parent}
 use Rattle.growing.proofs.levels.with_leaves.Statement.{statement}
 use Rattle.growing.proofs.levels.with_leaves.Tie as tie
 
 abbrev Inv-loop2 : tie.InvT-loop2
-Inv-loop2 leaves n hashes₀ count i h₀ m₀ level₀ hashes h m level =
-    (level ≤ mostHashes) × (length hashes ≡ mostHashes) × (merged sha256 hashes₀ count h₀ ≡ take level hashes ++ merged sha256 (drop level hashes) m h)
+Inv-loop2 alg leaves n algorithm hashes₀ count i h₀ m₀ level₀ hashes h m level =
+    (level ≤ mostHashes) × (length hashes ≡ mostHashes) × (merged (hashOf alg) hashes₀ count h₀ ≡ take level hashes ++ merged (hashOf alg) (drop level hashes) m h)
 
 abbrev μ-loop2 : tie.MeasureT-loop2
-μ-loop2 leaves n hashes₀ count i h₀ m₀ level₀ hashes h m level = mostHashes - level
+μ-loop2 alg leaves n algorithm hashes₀ count i h₀ m₀ level₀ hashes h m level = mostHashes - level
 
 abbrev Inv-loop : tie.InvT-loop
-Inv-loop leaves n hashes₀ count₀ i₀ hashes count i =
-    (i ≤ n) × (length hashes ≡ mostHashes) × (count ≡ count₀ + i) × (grown hashes count ≡ withLeaves sha256 (grown hashes₀ count₀) (firstNodes i leaves))
+Inv-loop alg leaves n algorithm hashes₀ count₀ i₀ hashes count i =
+    (i ≤ n) × (length hashes ≡ mostHashes) × (count ≡ count₀ + i) × (grown algorithm hashes count ≡ withLeaves (hashOf alg) (grown algorithm hashes₀ count₀) (firstNodes i leaves))
 
 abbrev μ-loop : tie.MeasureT-loop
-μ-loop leaves n hashes₀ count₀ i₀ hashes count i = n - i
+μ-loop alg leaves n algorithm hashes₀ count₀ i₀ hashes count i = n - i
 
 loop-holds : tie.Need-loop-holds Inv-loop2 μ-loop2 Inv-loop μ-loop
 loop-holds c =
     let a = c .before .before .args in
-    (search needs, sym (length-map (a .g .hashes) _) ∙ c .before .before .good .0 .1 .1 .0 .1 .0 .1, omega arith, sym (with-none sha256 (a .g) (now (a .leaves))))
+    (search needs, sym (length-map (a .g .hashes) _) ∙ c .before .before .good .1 .0 .1 .1 .1 .0 .1 .0 .1, omega arith, sym (with-none (hashOf (a .alg)) (a .g) (now (a .leaves))))
 
 loop2-holds : tie.Need-loop2-holds Inv-loop2 μ-loop2 Inv-loop μ-loop
 loop2-holds c = (search needs, c .before .before .loop .inv .1, refl)
 
 loop2-again : tie.Need-loop2-again Inv-loop2 μ-loop2 Inv-loop μ-loop
 loop2-again c =
+    let a = c .before .before .before .before .before .before .before .before .before .before .before .args in
     let l = c .before .before .before .before .before .loop2 in
     let s = l .hashes in
     let t = set s (l .level) nothing in
-    let up : take (l .level) s ++ merged sha256 (drop (l .level) s) (l .m) (l .h) ≡ take (l .level + 1) t ++ merged sha256 (drop (l .level + 1) t) (l .m / 2) (parent sha256 (getD s (l .level) past) (l .h)) =
-    merged-up sha256 s (l .level) (l .m) (l .h) (omega arith) (c .before .before .before .if1 .left) in (
+    let up : take (l .level) s ++ merged (hashOf (a .alg)) (drop (l .level) s) (l .m) (l .h) ≡ take (l .level + 1) t ++ merged (hashOf (a .alg)) (drop (l .level + 1) t) (l .m / 2) (parent (hashOf (a .alg)) (getD s (l .level) past) (l .h)) =
+    merged-up (hashOf (a .alg)) s (l .level) (l .m) (l .h) (omega arith) (c .before .before .before .if1 .left) in (
       search needs,
       length-set s (l .level) _ ∙ l .inv .1,
       l .inv .2 ∙ up
-          ∙ ap (λ (x : Digest). take (l .level + 1) t ++ merged sha256 (drop (l .level + 1) t) (l .m / 2) x) (sym (node-parent (getD s (l .level) past) (l .h) (c .before .node .result) (c .before .node .ensures)))
-          ∙ ap (λ (x : Digest). take (l .level + 1) (set s (l .level) x) ++ merged sha256 (drop (l .level + 1) (set s (l .level) x)) (l .m / 2) (c .before .node .result)) (sym (c .no-hash .ensures)),
+          ∙ ap (λ (x : Digest). take (l .level + 1) t ++ merged (hashOf (a .alg)) (drop (l .level + 1) t) (l .m / 2) x) (sym (node-parent (a .alg) (getD s (l .level) past) (l .h) (c .before .node .result) (c .before .node .ensures)))
+          ∙ ap (λ (x : Digest). take (l .level + 1) (set s (l .level) x) ++ merged (hashOf (a .alg)) (drop (l .level + 1) (set s (l .level) x)) (l .m / 2) (c .before .node .result)) (sym (c .no-hash .ensures)),
     )
 
 loop-again : tie.Need-loop-again Inv-loop2 μ-loop2 Inv-loop μ-loop
@@ -67,17 +68,17 @@ loop-again c =
     let s = now (a .leaves) in
     let held : 32 * l .i + 32 ≤ length s = omega arith in
     let even : up .level + 1 ≤ mostHashes → up .m % 2 ≡ 0 = λ h. ⊎-elim (λ t. absurd (omega arith)) (λ t. t .1 .taken) (c .before .loop2-test .came) in
-    let put : c .if2 .hashes ≡ merged sha256 (l .hashes) (l .count) (x .result) =
-    ⊎-elim (λ w. w .1 ∙ sym (up .inv .2 ∙ merged-here sha256 (up .hashes) (up .level) (up .m) (up .h) (omega arith) (even (omega arith))))
-    (λ w. w .1 ∙ sym (up .inv .2 ∙ merged-end sha256 (up .hashes) (up .level) (up .m) (up .h) (omega arith)))
+    let put : c .if2 .hashes ≡ merged (hashOf (a .alg)) (l .hashes) (l .count) (x .result) =
+    ⊎-elim (λ w. w .1 ∙ sym (up .inv .2 ∙ merged-here (hashOf (a .alg)) (up .hashes) (up .level) (up .m) (up .h) (omega arith) (even (omega arith))))
+    (λ w. w .1 ∙ sym (up .inv .2 ∙ merged-end (hashOf (a .alg)) (up .hashes) (up .level) (up .m) (up .h) (omega arith)))
     (c .if2 .came) in (
       search needs,
-      ap length put ∙ merged-length sha256 (l .hashes) (l .count) (x .result) ∙ l .inv .1,
+      ap length put ∙ merged-length (hashOf (a .alg)) (l .hashes) (l .count) (x .result) ∙ l .inv .1,
       omega arith,
-      with-leaf-of sha256 (grown (l .hashes) (l .count)) (c .if2 .hashes) (l .count + 1) (x .result) put refl
-          ∙ ap (λ (d : List ℕ). withLeaf sha256 (grown (l .hashes) (l .count)) (digest d)) (x .ensures ∙ hash-in (l .i) s held)
-          ∙ ap (λ (g : Growing). withLeaf sha256 g (digest (nodeAt (l .i) s))) (l .inv .3)
-          ∙ sym (with-next sha256 (a .g) s (l .i)),
+      with-leaf-of (hashOf (a .alg)) (grown (a .g .algorithm) (l .hashes) (l .count)) (c .if2 .hashes) (l .count + 1) (x .result) put refl
+          ∙ ap (λ (d : List ℕ). withLeaf (hashOf (a .alg)) (grown (a .g .algorithm) (l .hashes) (l .count)) (digest d)) (x .ensures ∙ hash-in (l .i) s held)
+          ∙ ap (λ (g : Growing). withLeaf (hashOf (a .alg)) g (digest (nodeAt (l .i) s))) (l .inv .3)
+          ∙ sym (with-next (hashOf (a .alg)) (a .g) s (l .i)),
     )
 
 returns : tie.Need-returns Inv-loop2 μ-loop2 Inv-loop μ-loop
@@ -85,7 +86,7 @@ returns c =
     let a = c .before .before .before .before .args in
     let l = c .before .loop in
     let done : l .i ≡ a .n = omega arith in
-    l .inv .3 ∙ ap (λ (k : ℕ). withLeaves sha256 (a .g) (firstNodes k (now (a .leaves)))) done
+    l .inv .3 ∙ ap (λ (k : ℕ). withLeaves (hashOf (a .alg)) (a .g) (firstNodes k (now (a .leaves)))) done
 
 pub with-leaves-spec : {M : Type 1} → statement M
 with-leaves-spec =

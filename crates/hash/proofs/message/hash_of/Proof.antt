@@ -1,21 +1,26 @@
-use native.Mathlib.Omega.{arith}
 use borrow.Author.Needs.{needs}
-use denote.Ref.{now}
-use mathlib.Core.Path.{refl, _∙_}
-use Rattle.sha256.specs.Sha256.{compress, initial}
-use Rattle.sha256.proofs.Promises.{compress-same}
-use Rattle.hash.proofs.Padding.{short-ends}
+use mathlib.Core.Path.{_≡_, refl}
+use Rattle.hash.specs.Algorithm.{wordsOf}
 use Rattle.hash.proofs.message.hash_of.Statement.{statement}
 use Rattle.hash.proofs.message.hash_of.Tie as tie
 
-returns : tie.Need-returns
-returns c =
-    let a = c .before .before .before .before .before .before .before .args in
-    let s = c .before .before .before .initial .ensures in
-    c .before .finish .ensures ∙ rw s (short-ends compress compress-same initial (now (a .head)) (now (a .m)) _ refl)
+message-requires : tie.Need-message-requires
+unfolding wordsOf
+message-requires c κs = let p = c .before .before .before .before .before .pre in (p .0, p .1, rw (c .before .enum-told .given .1) refl)
 
-returns-2 : tie.Need-returns-2
-returns-2 c = c .before .long .ensures
+message-requires-2 : tie.Need-message-requires-2
+unfolding wordsOf
+message-requires-2 c κs = let p = c .before .before .before .before .before .pre in (p .0, p .1, rw (c .before .enum-told2 .given .1) refl)
 
 pub hash-of-spec : {M : Type 1} → statement M
-hash-of-spec = tie.close (tie.spec (λ c. omega arith) (λ c. search needs) (λ c. search needs) (λ c. search needs) returns (λ c. search needs) (λ c. search needs) returns-2)
+hash-of-spec =
+    tie.close
+    (tie.spec
+    (λ c. search needs)
+    (λ c. search needs)
+    message-requires
+    (λ c. search needs)
+    (λ c. search needs)
+    message-requires-2
+    (λ c. search needs)
+    (λ c. search needs))

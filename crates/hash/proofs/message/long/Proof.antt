@@ -7,18 +7,18 @@ use native.Mathlib.Nat.{le-refl}
 use native.Mathlib.Omega.{arith}
 use lib.ListN.{length, drop, length-drop}
 use lib.Seq.{take-all, length-take-le}
-use Rattle.sha256.specs.Sha256.{compress, initial}
+use Rattle.hash.specs.Algorithm.{startOf, stepOf, wordsOf}
 use Rattle.hash.specs.Message.{absorbed}
-use Rattle.sha256.proofs.Promises.{compress-same}
+use Rattle.hash.proofs.Algorithms.{step-same}
 use Rattle.hash.proofs.Padding.{next-block, long-ends}
 use Rattle.hash.proofs.message.long.Statement.{statement}
 use Rattle.hash.proofs.message.long.Tie as tie
 
 abbrev Inv-loop : tie.InvT-loop
-Inv-loop head m w₀ n p₀ v₀ t7 w p v = (p ≤ length m) × (length w ≡ 64) × ((length head + p) % 64 ≡ 0) × (t7 ≡ []) × (v ≡ absorbed compress initial (head ++ m) ((length head + p) / 64))
+Inv-loop alg head m w₀ n p₀ v₀ t7 w p v = (p ≤ length m) × (length w ≡ wordsOf alg) × ((length head + p) % 64 ≡ 0) × (t7 ≡ []) × (v ≡ absorbed (stepOf alg) (startOf alg) (head ++ m) ((length head + p) / 64))
 
 abbrev μ-loop : tie.MeasureT-loop
-μ-loop head m w₀ n p₀ v₀ t7 w p v = length m - p
+μ-loop alg head m w₀ n p₀ v₀ t7 w p v = length m - p
 
 loop-holds : tie.Need-loop-holds Inv-loop μ-loop
 loop-holds c =
@@ -37,7 +37,7 @@ loop-again c =
       search needs,
       omega arith,
       l .inv .3,
-      rw e (c .before .before .compress .ensures ∙ rw (l .inv .4) (next-block compress compress-same initial (now (a .head)) (now (a .m)) (l .p) i (omega arith) (omega arith))),
+      rw e (c .before .before .compress .ensures ∙ rw (l .inv .4) (next-block (stepOf (a .alg)) (step-same (a .alg)) (startOf (a .alg)) (now (a .head)) (now (a .m)) (l .p) i (omega arith) (omega arith))),
     )
 
 finish-requires : tie.Need-finish-requires Inv-loop μ-loop
@@ -56,7 +56,7 @@ returns c =
     let l = k .loop in
     let m = now (a .m) in
     c .before .before .finish .ensures
-    ∙ long-ends compress compress-same initial (l .v) (now (a .head)) m _ _ (l .p) ((length (now (a .head)) + l .p) / 64) _ (l .inv .0) (omega arith) refl (l .inv .4) (l .inv .3) (take-all (length m - l .p) (drop (l .p) m) (rw length-drop (le-refl _)))
+    ∙ long-ends (stepOf (a .alg)) (step-same (a .alg)) (startOf (a .alg)) (l .v) (now (a .head)) m _ _ (l .p) ((length (now (a .head)) + l .p) / 64) _ (l .inv .0) (omega arith) refl (l .inv .4) (l .inv .3) (take-all (length m - l .p) (drop (l .p) m) (rw length-drop (le-refl _)))
 
 pub long-spec : {M : Type 1} → statement M
 long-spec = tie.close (tie.spec Inv-loop μ-loop (λ c. omega arith) (λ c. omega arith) (λ c. search needs) loop-holds (λ c. omega arith) (λ c. search needs) (λ c. omega arith) (λ c. omega arith) loop-again (λ c. search needs) (λ c. omega arith) (λ c. search needs) (λ c. search needs) finish-requires (λ c. search needs) returns)

@@ -5,8 +5,8 @@ use Prim.Native.Nat.{ℕ}
 use native.Mathlib.Omega.{arith}
 use lib.ListN.{length}
 use denote.Ref.{now}
-use Rattle.hash.specs.Digest.{sha256}
-use Rattle.hash.proofs.Promises.{sha256-length}
+use Rattle.hash.specs.Digest.{hashOf}
+use Rattle.hash.proofs.Promises.{hash-length}
 use lib.Seq.{paste}
 use Rattle.tree.specs.Tree.{root}
 use Rattle.tree.specs.Joined.{nodes}
@@ -22,7 +22,7 @@ bad-leaves-requires c κs = omega arith
 returns : tie.Need-returns
 returns c =
     let a = c .before .before .before .before .args in
-    reports-refused (now (a .out)) (root-10 sha256 (now (a .leaves)) (length (now (a .out))) (sym (c .before .bad-leaves .ensures) ∙ c .if1 .taken))
+    reports-refused (now (a .out)) (root-10 (hashOf (a .alg)) (now (a .leaves)) (length (now (a .out))) (sym (c .before .bad-leaves .ensures) ∙ c .if1 .taken))
 
 returns-2 : tie.Need-returns-2
 returns-2 c =
@@ -30,8 +30,8 @@ returns-2 c =
     let s = now (a .leaves) in
     let r = length (now (a .out)) in
     let u = sym (c .before .before .bad-leaves .ensures) ∙ c .before .if1 .left in
-    let w = root-32 sha256 sha256-length (nodes s) (all-nodes s) in
-    reports-refused (now (a .out)) (root-in sha256 s r u ∙ short r (root sha256 (nodes s)) (omega arith))
+    let w = root-32 (hashOf (a .alg)) (hash-length (a .alg)) (nodes s) (all-nodes s) in
+    reports-refused (now (a .out)) (root-in (hashOf (a .alg)) s r u ∙ short r (root (hashOf (a .alg)) (nodes s)) (omega arith))
 
 root-of-requires : tie.Need-root-of-requires
 root-of-requires c κs = omega arith
@@ -48,9 +48,9 @@ returns-3 c =
     let s = now (a .leaves) in
     let o = now (a .out) in
     let u = sym (c .before .before .before .before .before .before .before .before .bad-leaves .ensures) ∙ c .before .before .before .before .before .before .before .if1 .left in
-    let w = root-32 sha256 sha256-length (nodes s) (all-nodes s) in
-    let y = c .before .before .put-node .ensures ∙ ap (λ (h : List ℕ). paste o 0 h 32) (c .before .before .before .before .before .root-of .ensures .1 ∙ bytes-0 sha256 s u) in
-    reports-wrote o (root-in sha256 s (length o) u ∙ long (length o) (root sha256 (nodes s)) (omega arith)) (sym w) (over-whole (root sha256 (nodes s)) o w y)
+    let w = root-32 (hashOf (a .alg)) (hash-length (a .alg)) (nodes s) (all-nodes s) in
+    let y = c .before .before .put-node .ensures ∙ ap (λ (h : List ℕ). paste o 0 h 32) (c .before .before .before .before .before .root-of .ensures .1 ∙ bytes-0 (hashOf (a .alg)) s u) in
+    reports-wrote o (root-in (hashOf (a .alg)) s (length o) u ∙ long (length o) (root (hashOf (a .alg)) (nodes s)) (omega arith)) (sym w) (over-whole (root (hashOf (a .alg)) (nodes s)) o w y)
 
 pub root-spec : {M : Type 1} → statement M
 root-spec =

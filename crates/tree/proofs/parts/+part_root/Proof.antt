@@ -2,7 +2,7 @@
 use mathlib.Core.Path.{_∙_}
 use native.Mathlib.Omega.{arith}
 use denote.Ref.{now}
-use Rattle.hash.specs.Digest.{sha256}
+use Rattle.hash.specs.Digest.{hashOf}
 use Rattle.tree.proofs.Joining.{hash-in}
 use Rattle.tree.proofs.Parting.{root-single, root-parts}
 use Prim.Native.Nat.{ℕ, _<_}
@@ -18,7 +18,7 @@ use Rattle.tree.proofs.parts.+part_root.{statement}
 use Rattle.tree.proofs.parts.+part_root.Tie.{close}
 
 abbrev μ-part-root : Measures 1 part-root-kinds.ps ℕ
-μ-part-root κs a = a .1 .1 .0
+μ-part-root κs a = a .1 .1 .1 .0
 
 abbrev part-root-at : ℕ → In 1 part-root-kinds.ps
 part-root-at t = and 1 part-root-kinds.ps (is 1 part-root-kinds.ps μ-part-root t) part-root.Pre
@@ -36,7 +36,7 @@ part-root-node-at-requires t c κs = omega arith
 part-root-returns : (t : ℕ) → part-root-lts.Need-returns (calls t) (part-root-at t) part-root.Post
 part-root-returns t c =
     let a = c .before .before .before .args in
-    root-single sha256 (a .from) (a .n) (now (a .leaves)) (omega arith) (c .node-at .ensures ∙ hash-in (a .from) (now (a .leaves)) (omega arith))
+    root-single (hashOf (a .alg)) (a .from) (a .n) (now (a .leaves)) (omega arith) (c .node-at .ensures ∙ hash-in (a .from) (now (a .leaves)) (omega arith))
 
 part-root-split-of-requires : (t : ℕ) → part-root-lts.Need-split-of-requires (calls t) (part-root-at t) part-root.Post
 part-root-split-of-requires t c κs = omega arith
@@ -60,7 +60,7 @@ part-root-returns-2 : (t : ℕ) → part-root-lts.Need-returns-2 (calls t) (part
 part-root-returns-2 t c =
     let a = c .before .before .before .before .before .before .args in
     let e = c .before .before .before .split-of .ensures .0 in
-    root-parts sha256 (a .from) (a .n) (now (a .leaves)) (c .before .before .before .split-of .result) (omega arith) e (c .node .ensures) (c .before .before .part-root .ensures) (c .before .part-root2 .ensures)
+    root-parts (hashOf (a .alg)) (a .from) (a .n) (now (a .leaves)) (c .before .before .before .split-of .result) (omega arith) e (c .node .ensures) (c .before .before .part-root .ensures) (c .before .part-root2 .ensures)
 
 pub +part-root-spec : {M : Type 1} → statement M
 +part-root-spec = close μ-part-root λ t. part-root-lts.spec (calls t)

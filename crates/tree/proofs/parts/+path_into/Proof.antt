@@ -2,10 +2,10 @@
 use Prim.Native.Nat.{ℕ, _+_, _-_, _<_}
 use native.Mathlib.Omega.{arith}
 use denote.Ref.{now}
-use Rattle.hash.specs.Digest.{sha256}
+use Rattle.hash.specs.Digest.{hashOf}
 use Rattle.tree.specs.Tree.{root, path}
 use Rattle.tree.specs.Joined.{nodesFrom}
-use Rattle.hash.proofs.Promises.{sha256-length}
+use Rattle.hash.proofs.Promises.{hash-length}
 use Rattle.tree.proofs.Parting.{Grows, path-single, path-grows-first, path-grows-rest, over-none, over-more}
 use borrow.Fn.Kinds.{In}
 use borrow.Fn.PlainCycle.{Measures, is, falls, and}
@@ -18,7 +18,7 @@ use Rattle.tree.proofs.parts.+path_into.{statement}
 use Rattle.tree.proofs.parts.+path_into.Tie.{close}
 
 abbrev μ-path-into : Measures 2 path-into-kinds.ps ℕ
-μ-path-into κs a = a .1 .1 .0
+μ-path-into κs a = a .1 .1 .1 .0
 
 abbrev path-into-at : ℕ → In 2 path-into-kinds.ps
 path-into-at t = and 2 path-into-kinds.ps (is 2 path-into-kinds.ps μ-path-into t) path-into.Pre
@@ -38,9 +38,9 @@ module _ (t : ℕ) (c : path-into-lts.Then2 (calls t) (path-into-at t) path-into
   abbrev split₁ : ℕ
   split₁ = c .before .split-of .result
 
-  first-grows : Grows (path sha256 (entry₁ .args .place) (nodesFrom (entry₁ .args .from) split₁ (now (entry₁ .args .leaves)))) (path sha256 (entry₁ .args .place) (nodesFrom (entry₁ .args .from) (entry₁ .args .n) (now (entry₁ .args .leaves)))) (root sha256 (nodesFrom (entry₁ .args .from + split₁) (entry₁ .args .n - split₁) (now (entry₁ .args .leaves))))
+  first-grows : Grows (path (hashOf (entry₁ .args .alg)) (entry₁ .args .place) (nodesFrom (entry₁ .args .from) split₁ (now (entry₁ .args .leaves)))) (path (hashOf (entry₁ .args .alg)) (entry₁ .args .place) (nodesFrom (entry₁ .args .from) (entry₁ .args .n) (now (entry₁ .args .leaves)))) (root (hashOf (entry₁ .args .alg)) (nodesFrom (entry₁ .args .from + split₁) (entry₁ .args .n - split₁) (now (entry₁ .args .leaves))))
   first-grows =
-      path-grows-first sha256 sha256-length (entry₁ .args .from) (entry₁ .args .n) (now (entry₁ .args .leaves)) (omega arith) split₁ (omega arith) (c .before .split-of .ensures .0) (entry₁ .args .place) (c .if2 .taken)
+      path-grows-first (hashOf (entry₁ .args .alg)) (hash-length (entry₁ .args .alg)) (entry₁ .args .from) (entry₁ .args .n) (now (entry₁ .args .leaves)) (omega arith) split₁ (omega arith) (c .before .split-of .ensures .0) (entry₁ .args .place) (c .if2 .taken)
 
 module _ (t : ℕ) (c : path-into-lts.Else2 (calls t) (path-into-at t) path-into.Post) where
   abbrev entry₂ : path-into-lts.Start (calls t) (path-into-at t) path-into.Post
@@ -49,14 +49,14 @@ module _ (t : ℕ) (c : path-into-lts.Else2 (calls t) (path-into-at t) path-into
   abbrev split₂ : ℕ
   split₂ = c .before .split-of .result
 
-  rest-grows : Grows (path sha256 (entry₂ .args .place - split₂) (nodesFrom (entry₂ .args .from + split₂) (entry₂ .args .n - split₂) (now (entry₂ .args .leaves)))) (path sha256 (entry₂ .args .place) (nodesFrom (entry₂ .args .from) (entry₂ .args .n) (now (entry₂ .args .leaves)))) (root sha256 (nodesFrom (entry₂ .args .from) split₂ (now (entry₂ .args .leaves))))
+  rest-grows : Grows (path (hashOf (entry₂ .args .alg)) (entry₂ .args .place - split₂) (nodesFrom (entry₂ .args .from + split₂) (entry₂ .args .n - split₂) (now (entry₂ .args .leaves)))) (path (hashOf (entry₂ .args .alg)) (entry₂ .args .place) (nodesFrom (entry₂ .args .from) (entry₂ .args .n) (now (entry₂ .args .leaves)))) (root (hashOf (entry₂ .args .alg)) (nodesFrom (entry₂ .args .from) split₂ (now (entry₂ .args .leaves))))
   rest-grows =
-      path-grows-rest sha256 sha256-length (entry₂ .args .from) (entry₂ .args .n) (now (entry₂ .args .leaves)) (omega arith) split₂ (omega arith) (c .before .split-of .ensures .0) (entry₂ .args .place) (c .if2 .left)
+      path-grows-rest (hashOf (entry₂ .args .alg)) (hash-length (entry₂ .args .alg)) (entry₂ .args .from) (entry₂ .args .n) (now (entry₂ .args .leaves)) (omega arith) split₂ (omega arith) (c .before .split-of .ensures .0) (entry₂ .args .place) (c .if2 .left)
 
 path-into-returns : (t : ℕ) → path-into-lts.Need-returns (calls t) (path-into-at t) path-into.Post
 path-into-returns t c =
     let a = c .before .before .before .args in
-    over-none _ (now (a .out)) (path-single sha256 (a .from) (a .n) (now (a .leaves)) (a .place) (omega arith))
+    over-none _ (now (a .out)) (path-single (hashOf (a .alg)) (a .from) (a .n) (now (a .leaves)) (a .place) (omega arith))
 
 path-into-split-of-requires : (t : ℕ) → path-into-lts.Need-split-of-requires (calls t) (path-into-at t) path-into.Post
 path-into-split-of-requires t c κs = omega arith
@@ -74,7 +74,7 @@ path-into-put-root-requires : (t : ℕ) → path-into-lts.Need-put-root-requires
 path-into-put-root-requires t c κs =
     let g = first-grows t (c .before .before .before .before .before) in
     let call = c .before .before .before .path-into in
-    (omega arith, omega arith, omega (arith, call .ensures .0, call .kept .1 .1 .1 .1 .0))
+    (omega arith, omega arith, omega (arith, call .ensures .0, call .kept .1 .1 .1 .1 .1 .0))
 
 path-into-same-length : (t : ℕ) → path-into-lts.Need-same-length (calls t) (path-into-at t) path-into.Post
 path-into-same-length t c = omega arith
@@ -98,7 +98,7 @@ path-into-put-root-requires-2 : (t : ℕ) → path-into-lts.Need-put-root-requir
 path-into-put-root-requires-2 t c κs =
     let g = rest-grows t (c .before .before .before .before .before) in
     let call = c .before .before .before .path-into2 in
-    (omega arith, omega arith, omega (arith, call .ensures .0, call .kept .1 .1 .1 .1 .0))
+    (omega arith, omega arith, omega (arith, call .ensures .0, call .kept .1 .1 .1 .1 .1 .0))
 
 path-into-same-length-2 : (t : ℕ) → path-into-lts.Need-same-length-2 (calls t) (path-into-at t) path-into.Post
 path-into-same-length-2 t c = omega arith

@@ -5,10 +5,10 @@ use mathlib.Core.List.{[]}
 use Prim.Native.Nat.{ℕ, _+_, _-_, _<_}
 use native.Mathlib.Omega.{arith}
 use denote.Ref.{now}
-use Rattle.hash.specs.Digest.{sha256}
+use Rattle.hash.specs.Digest.{hashOf}
 use Rattle.tree.specs.Tree.{root, subproof}
 use Rattle.tree.specs.Joined.{nodesFrom}
-use Rattle.hash.proofs.Promises.{sha256-length}
+use Rattle.hash.proofs.Promises.{hash-length}
 use Rattle.tree.proofs.Parting.{Grows, sub-known, sub-grows-all, sub-grows-first, sub-grows-rest, over-none, over-more}
 use borrow.Fn.Kinds.{In}
 use borrow.Fn.PlainCycle.{Measures, is, falls, and}
@@ -21,7 +21,7 @@ use Rattle.tree.proofs.parts.+proof_into.{statement}
 use Rattle.tree.proofs.parts.+proof_into.Tie.{close}
 
 abbrev μ-proof-into : Measures 2 proof-into-kinds.ps ℕ
-μ-proof-into κs a = a .1 .1 .0
+μ-proof-into κs a = a .1 .1 .1 .0
 
 abbrev proof-into-at : ℕ → In 2 proof-into-kinds.ps
 proof-into-at t =
@@ -42,9 +42,9 @@ module _ (t : ℕ) (c : proof-into-lts.Then3 (calls t) (proof-into-at t) proof-i
   abbrev split₁ : ℕ
   split₁ = c .before .split-of .result
 
-  first-grows : Grows (subproof sha256 (entry₁ .args .m) (nodesFrom (entry₁ .args .from) split₁ (now (entry₁ .args .leaves))) (entry₁ .args .known)) (subproof sha256 (entry₁ .args .m) (nodesFrom (entry₁ .args .from) (entry₁ .args .n) (now (entry₁ .args .leaves))) (entry₁ .args .known)) (root sha256 (nodesFrom (entry₁ .args .from + split₁) (entry₁ .args .n - split₁) (now (entry₁ .args .leaves))))
+  first-grows : Grows (subproof (hashOf (entry₁ .args .alg)) (entry₁ .args .m) (nodesFrom (entry₁ .args .from) split₁ (now (entry₁ .args .leaves))) (entry₁ .args .known)) (subproof (hashOf (entry₁ .args .alg)) (entry₁ .args .m) (nodesFrom (entry₁ .args .from) (entry₁ .args .n) (now (entry₁ .args .leaves))) (entry₁ .args .known)) (root (hashOf (entry₁ .args .alg)) (nodesFrom (entry₁ .args .from + split₁) (entry₁ .args .n - split₁) (now (entry₁ .args .leaves))))
   first-grows =
-      sub-grows-first sha256 sha256-length (entry₁ .args .from) (entry₁ .args .n) (now (entry₁ .args .leaves)) (omega arith) (entry₁ .args .m) (entry₁ .args .known) (omega arith) split₁ (omega arith) (c .before .split-of .ensures .0) (c .if3 .taken)
+      sub-grows-first (hashOf (entry₁ .args .alg)) (hash-length (entry₁ .args .alg)) (entry₁ .args .from) (entry₁ .args .n) (now (entry₁ .args .leaves)) (omega arith) (entry₁ .args .m) (entry₁ .args .known) (omega arith) split₁ (omega arith) (c .before .split-of .ensures .0) (c .if3 .taken)
 
 module _ (t : ℕ) (c : proof-into-lts.Else3 (calls t) (proof-into-at t) proof-into.Post) where
   abbrev entry₂ : proof-into-lts.Start (calls t) (proof-into-at t) proof-into.Post
@@ -53,19 +53,19 @@ module _ (t : ℕ) (c : proof-into-lts.Else3 (calls t) (proof-into-at t) proof-i
   abbrev split₂ : ℕ
   split₂ = c .before .split-of .result
 
-  rest-grows : Grows (subproof sha256 (entry₂ .args .m - split₂) (nodesFrom (entry₂ .args .from + split₂) (entry₂ .args .n - split₂) (now (entry₂ .args .leaves))) false) (subproof sha256 (entry₂ .args .m) (nodesFrom (entry₂ .args .from) (entry₂ .args .n) (now (entry₂ .args .leaves))) (entry₂ .args .known)) (root sha256 (nodesFrom (entry₂ .args .from) split₂ (now (entry₂ .args .leaves))))
+  rest-grows : Grows (subproof (hashOf (entry₂ .args .alg)) (entry₂ .args .m - split₂) (nodesFrom (entry₂ .args .from + split₂) (entry₂ .args .n - split₂) (now (entry₂ .args .leaves))) false) (subproof (hashOf (entry₂ .args .alg)) (entry₂ .args .m) (nodesFrom (entry₂ .args .from) (entry₂ .args .n) (now (entry₂ .args .leaves))) (entry₂ .args .known)) (root (hashOf (entry₂ .args .alg)) (nodesFrom (entry₂ .args .from) split₂ (now (entry₂ .args .leaves))))
   rest-grows =
-      sub-grows-rest sha256 sha256-length (entry₂ .args .from) (entry₂ .args .n) (now (entry₂ .args .leaves)) (omega arith) (entry₂ .args .m) (entry₂ .args .known) (omega arith) split₂ (omega arith) (c .before .split-of .ensures .0) (c .if3 .left)
+      sub-grows-rest (hashOf (entry₂ .args .alg)) (hash-length (entry₂ .args .alg)) (entry₂ .args .from) (entry₂ .args .n) (now (entry₂ .args .leaves)) (omega arith) (entry₂ .args .m) (entry₂ .args .known) (omega arith) split₂ (omega arith) (c .before .split-of .ensures .0) (c .if3 .left)
 
 proof-into-returns : (t : ℕ) → proof-into-lts.Need-returns (calls t) (proof-into-at t) proof-into.Post
 proof-into-returns t c =
     let a = c .before .before .before .before .args in
-    over-none _ (now (a .out)) (sub-known sha256 (a .from) (a .n) (now (a .leaves)) (a .m) (a .known) (omega arith) (omega arith) (c .if2 .taken))
+    over-none _ (now (a .out)) (sub-known (hashOf (a .alg)) (a .from) (a .n) (now (a .leaves)) (a .m) (a .known) (omega arith) (omega arith) (c .if2 .taken))
 
 proof-into-put-root-requires : (t : ℕ) → proof-into-lts.Need-put-root-requires (calls t) (proof-into-at t) proof-into.Post
 proof-into-put-root-requires t c κs =
     let a = c .before .before .before .before .before .args in
-    let g = sub-grows-all sha256 sha256-length (a .from) (a .n) (now (a .leaves)) (omega arith) (a .m) (a .known) (omega arith) (omega arith) (c .before .if2 .left) in
+    let g = sub-grows-all (hashOf (a .alg)) (hash-length (a .alg)) (a .from) (a .n) (now (a .leaves)) (omega arith) (a .m) (a .known) (omega arith) (omega arith) (c .before .if2 .left) in
     (omega arith, omega arith, omega arith)
 
 proof-into-same-length : (t : ℕ) → proof-into-lts.Need-same-length (calls t) (proof-into-at t) proof-into.Post
@@ -74,7 +74,7 @@ proof-into-same-length t c = omega arith
 proof-into-returns-2 : (t : ℕ) → proof-into-lts.Need-returns-2 (calls t) (proof-into-at t) proof-into.Post
 proof-into-returns-2 t c =
     let a = c .before .before .before .before .before .before .before .before .args in
-    let g = sub-grows-all sha256 sha256-length (a .from) (a .n) (now (a .leaves)) (omega arith) (a .m) (a .known) (omega arith) (omega arith) (c .before .before .before .before .if2 .left) in
+    let g = sub-grows-all (hashOf (a .alg)) (hash-length (a .alg)) (a .from) (a .n) (now (a .leaves)) (omega arith) (a .m) (a .known) (omega arith) (omega arith) (c .before .before .before .before .if2 .left) in
     let none = over-none [] (now (a .out)) refl in
     let put = c .before .before .put-root .ensures in
     over-more (now (a .out)) g (none .0) (none .1) (put .0) (put .1)
@@ -95,7 +95,7 @@ proof-into-put-root-requires-2 : (t : ℕ) → proof-into-lts.Need-put-root-requ
 proof-into-put-root-requires-2 t c κs =
     let g = first-grows t (c .before .before .before .before .before) in
     let call = c .before .before .before .proof-into in
-    (omega arith, omega arith, omega (arith, call .ensures .0, call .kept .1 .1 .1 .1 .1 .0))
+    (omega arith, omega arith, omega (arith, call .ensures .0, call .kept .1 .1 .1 .1 .1 .1 .0))
 
 proof-into-same-length-2 : (t : ℕ) → proof-into-lts.Need-same-length-2 (calls t) (proof-into-at t) proof-into.Post
 proof-into-same-length-2 t c = omega arith
@@ -122,7 +122,7 @@ proof-into-put-root-requires-3 : (t : ℕ) → proof-into-lts.Need-put-root-requ
 proof-into-put-root-requires-3 t c κs =
     let g = rest-grows t (c .before .before .before .before .before) in
     let call = c .before .before .before .proof-into2 in
-    (omega arith, omega arith, omega (arith, call .ensures .0, call .kept .1 .1 .1 .1 .1 .0))
+    (omega arith, omega arith, omega (arith, call .ensures .0, call .kept .1 .1 .1 .1 .1 .1 .0))
 
 proof-into-same-length-3 : (t : ℕ) → proof-into-lts.Need-same-length-3 (calls t) (proof-into-at t) proof-into.Post
 proof-into-same-length-3 t c = omega arith

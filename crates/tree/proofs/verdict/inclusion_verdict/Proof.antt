@@ -5,7 +5,6 @@ use Prim.Native.Nat.{ℕ, _/_}
 use native.Mathlib.Omega.{arith}
 use lib.ListN.{length}
 use borrow.Author.Tests.{not-true, not-false}
-use Rattle.hash.specs.Digest.{sha256}
 use Rattle.tree.specs.Yield.{inclusionRoot}
 use Rattle.octets.specs.Bytes.{same}
 use Rattle.tree.specs.Joined.{firstNodes, nodes, hashAt}
@@ -16,8 +15,8 @@ use Rattle.tree.proofs.verdict.inclusion_verdict.Statement.{statement}
 use Rattle.tree.proofs.verdict.inclusion_verdict.Tie as tie
 
 -- what the code yields is what the definition yields
-yielded : (leaf : List ℕ) (place size : ℕ) (root path : List ℕ) {x l : List ℕ} → x ≡ inclusionRoot sha256 place size l (firstNodes (length path / 32) path) → l ≡ hashAt 0 leaf → length leaf ≡ 32 → same (inclusionRoot sha256 place size leaf (nodes path)) root ≡ same x root
-yielded leaf place size root path e d h = ap (λ (x : List ℕ). same x root) (sym (e ∙ ap₂ (λ (y : List ℕ) (p : List (List ℕ)). inclusionRoot sha256 place size y p) (d ∙ whole-hash leaf h) (sym (nodes-first path))))
+yielded : (H : List ℕ → List ℕ) (leaf : List ℕ) (place size : ℕ) (root path : List ℕ) {x l : List ℕ} → x ≡ inclusionRoot H place size l (firstNodes (length path / 32) path) → l ≡ hashAt 0 leaf → length leaf ≡ 32 → same (inclusionRoot H place size leaf (nodes path)) root ≡ same x root
+yielded H leaf place size root path e d h = ap (λ (x : List ℕ). same x root) (sym (e ∙ ap₂ (λ (y : List ℕ) (p : List (List ℕ)). inclusionRoot H place size y p) (d ∙ whole-hash leaf h) (sym (nodes-first path))))
 
 pub inclusion-verdict-spec : {M : Type 1} → statement M
 unfolding inclusionVerdict
@@ -35,8 +34,8 @@ inclusion-verdict-spec =
     (λ c κs. omega arith)
     (λ c κs. omega arith)
     (λ c.
-    let y = yielded _ _ _ _ _ (c .before .before .inclusion-root .ensures) (c .before .before .before .node-at .ensures) (omega arith) in
+    let y = yielded _ _ _ _ _ _ (c .before .before .inclusion-root .ensures) (c .before .before .before .node-at .ensures) (omega arith) in
     other-8 _ _ _ _ _ _ (omega arith) (omega arith) (omega arith) (place-in _ _ (omega arith) (omega arith) (omega arith)) (omega arith) (y ∙ sym (c .before .equals .ensures) ∙ not-true (c .before .equals .result) (c .if7 .taken)))
     (λ c.
-    let y = yielded _ _ _ _ _ (c .before .before .inclusion-root .ensures) (c .before .before .before .node-at .ensures) (omega arith) in
+    let y = yielded _ _ _ _ _ _ (c .before .before .inclusion-root .ensures) (c .before .before .before .node-at .ensures) (omega arith) in
     right-0 _ _ _ _ _ _ (omega arith) (omega arith) (omega arith) (place-in _ _ (omega arith) (omega arith) (omega arith)) (omega arith) (y ∙ sym (c .before .equals .ensures) ∙ not-false (c .before .equals .result) (c .if7 .left))))

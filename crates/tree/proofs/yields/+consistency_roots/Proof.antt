@@ -3,7 +3,7 @@ use mathlib.Core.Path.{_≡_, _∙_}
 use mathlib.Core.Bool.{false}
 use native.Mathlib.Omega.{arith}
 use denote.Ref.{now}
-use Rattle.hash.specs.Digest.{sha256}
+use Rattle.hash.specs.Digest.{hashOf}
 use Rattle.tree.proofs.Joining.{hash-in}
 use Rattle.tree.proofs.Counting.{sub-all, sub-some, sub-low, sub-high}
 use Rattle.tree.proofs.Yielding.{both-known, both-unknown, both-low, both-high}
@@ -20,7 +20,7 @@ use Rattle.tree.proofs.yields.+consistency_roots.{statement}
 use Rattle.tree.proofs.yields.+consistency_roots.Tie.{close}
 
 abbrev μ-consistency-roots : Measures 1 consistency-roots-kinds.ps ℕ
-μ-consistency-roots κs a = a .1 .1 .0
+μ-consistency-roots κs a = a .1 .1 .1 .0
 
 abbrev consistency-roots-at : ℕ → In 1 consistency-roots-kinds.ps
 consistency-roots-at t = and 1 consistency-roots-kinds.ps (is 1 consistency-roots-kinds.ps μ-consistency-roots t) consistency-roots.Pre
@@ -56,7 +56,7 @@ module _ (t : ℕ) (c : consistency-roots-lts.After-split-of (calls t) (consiste
 consistency-roots-returns : (t : ℕ) → consistency-roots-lts.Need-returns (calls t) (consistency-roots-at t) consistency-roots.Post
 consistency-roots-returns t c =
     let a = c .before .before .before .args in
-    both-known sha256 (a .m) (a .n) 0 (a .first .bytes) (a .count) (now (a .path)) (a .known) (omega arith) (omega arith) (c .if2 .taken)
+    both-known (hashOf (a .alg)) (a .m) (a .n) 0 (a .first .bytes) (a .count) (now (a .path)) (a .known) (omega arith) (omega arith) (c .if2 .taken)
 
 consistency-roots-node-at-requires : (t : ℕ) → consistency-roots-lts.Need-node-at-requires (calls t) (consistency-roots-at t) consistency-roots.Post
 consistency-roots-node-at-requires t c κs = omega arith
@@ -65,7 +65,7 @@ consistency-roots-returns-2 : (t : ℕ) → consistency-roots-lts.Need-returns-2
 consistency-roots-returns-2 t c =
     let a = c .before .before .before .before .args in
     let q = one-node t (c .before) in
-    both-unknown sha256 (a .m) (a .n) 0 (a .first .bytes) (a .count) (now (a .path)) (a .known) (omega arith) (omega arith) (c .before .if2 .left) (c .before .before .before .before .pre .1 .2) (c .node-at .ensures ∙ hash-in 0 (now (a .path)) (omega arith))
+    both-unknown (hashOf (a .alg)) (a .m) (a .n) 0 (a .first .bytes) (a .count) (now (a .path)) (a .known) (omega arith) (omega arith) (c .before .if2 .left) (c .before .before .before .before .pre .1 .2) (c .node-at .ensures ∙ hash-in 0 (now (a .path)) (omega arith))
 
 consistency-roots-split-of-requires : (t : ℕ) → consistency-roots-lts.Need-split-of-requires (calls t) (consistency-roots-at t) consistency-roots.Post
 consistency-roots-split-of-requires t c κs = omega arith
@@ -91,7 +91,7 @@ consistency-roots-returns-3 : (t : ℕ) → consistency-roots-lts.Need-returns-3
 consistency-roots-returns-3 t c =
     let at = c .before .before .before .before .before .before in
     let a = entry t at .args in
-    both-low sha256 (a .m) (a .n) (at .split-of .result) (a .first .bytes) (a .count) (now (a .path)) (a .known) (old t at) (some t at) (part t at) (at .split-of .ensures .0)
+    both-low (hashOf (a .alg)) (a .m) (a .n) (at .split-of .result) (a .first .bytes) (a .count) (now (a .path)) (a .known) (old t at) (some t at) (part t at) (at .split-of .ensures .0)
     (c .before .before .before .before .before .if3 .taken) (c .before .before .before .before .consistency-roots .ensures) (c .before .node-at2 .ensures ∙ hash-in (a .count - 1) (now (a .path)) (omega (arith, some t at))) (c .node .ensures)
 
 consistency-roots-sub-consistency-roots : (t : ℕ) → consistency-roots-lts.Need-sub-consistency-roots (calls t) (consistency-roots-at t) consistency-roots.Post
@@ -121,7 +121,7 @@ consistency-roots-returns-4 : (t : ℕ) → consistency-roots-lts.Need-returns-4
 consistency-roots-returns-4 t c =
     let at = c .before .before .before .before .before .before .before in
     let a = entry t at .args in
-    both-high sha256 (a .m) (a .n) (at .split-of .result) (a .first .bytes) (a .count) (now (a .path)) (a .known) (old t at) (some t at) (part t at) (at .split-of .ensures .0)
+    both-high (hashOf (a .alg)) (a .m) (a .n) (at .split-of .result) (a .first .bytes) (a .count) (now (a .path)) (a .known) (old t at) (some t at) (part t at) (at .split-of .ensures .0)
     (c .before .before .before .before .before .before .if3 .left) (c .before .before .before .before .before .consistency-roots2 .ensures) (c .before .before .node-at3 .ensures ∙ hash-in (a .count - 1) (now (a .path)) (omega (arith, some t at))) (c .before .node2 .ensures) (c .node3 .ensures)
 
 pub +consistency-roots-spec : {M : Type 1} → statement M

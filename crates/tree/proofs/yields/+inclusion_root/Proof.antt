@@ -2,7 +2,7 @@
 use mathlib.Core.Path.{_∙_}
 use native.Mathlib.Omega.{arith}
 use denote.Ref.{now}
-use Rattle.hash.specs.Digest.{sha256}
+use Rattle.hash.specs.Digest.{hashOf}
 use Rattle.tree.proofs.Joining.{hash-in}
 use Rattle.tree.proofs.Counting.{count-some, count-low, count-high}
 use Rattle.tree.proofs.Yielding.{included-few, included-low, included-high}
@@ -19,7 +19,7 @@ use Rattle.tree.proofs.yields.+inclusion_root.{statement}
 use Rattle.tree.proofs.yields.+inclusion_root.Tie.{close}
 
 abbrev μ-inclusion-root : Measures 1 inclusion-root-kinds.ps ℕ
-μ-inclusion-root κs a = a .1 .1 .0
+μ-inclusion-root κs a = a .1 .1 .1 .0
 
 abbrev inclusion-root-at : ℕ → In 1 inclusion-root-kinds.ps
 inclusion-root-at t = and 1 inclusion-root-kinds.ps (is 1 inclusion-root-kinds.ps μ-inclusion-root t) inclusion-root.Pre
@@ -44,7 +44,7 @@ module _ (t : ℕ) (c : inclusion-root-lts.After-split-of (calls t) (inclusion-r
 inclusion-root-returns : (t : ℕ) → inclusion-root-lts.Need-returns (calls t) (inclusion-root-at t) inclusion-root.Post
 inclusion-root-returns t c =
     let a = c .before .before .args in
-    included-few sha256 (a .place) (a .size) 0 (a .leaf .bytes) (a .count) (now (a .path)) (omega arith)
+    included-few (hashOf (a .alg)) (a .place) (a .size) 0 (a .leaf .bytes) (a .count) (now (a .path)) (omega arith)
 
 inclusion-root-split-of-requires : (t : ℕ) → inclusion-root-lts.Need-split-of-requires (calls t) (inclusion-root-at t) inclusion-root.Post
 inclusion-root-split-of-requires t c κs = omega arith
@@ -69,7 +69,7 @@ inclusion-root-returns-2 : (t : ℕ) → inclusion-root-lts.Need-returns-2 (call
 inclusion-root-returns-2 t c =
     let at = c .before .before .before .before in
     let a = entry t at .args in
-    included-low sha256 (a .place) (a .size) (at .split-of .result) (a .leaf .bytes) (a .count) (now (a .path)) (some t at) (more t at) (at .split-of .ensures .0) (c .node .ensures) (c .before .before .before .if2 .taken) (c .before .before .inclusion-root .ensures) (c .before .node-at .ensures ∙ hash-in (a .count - 1) (now (a .path)) (omega (arith, some t at)))
+    included-low (hashOf (a .alg)) (a .place) (a .size) (at .split-of .result) (a .leaf .bytes) (a .count) (now (a .path)) (some t at) (more t at) (at .split-of .ensures .0) (c .node .ensures) (c .before .before .before .if2 .taken) (c .before .before .inclusion-root .ensures) (c .before .node-at .ensures ∙ hash-in (a .count - 1) (now (a .path)) (omega (arith, some t at)))
 
 inclusion-root-sub-inclusion-root : (t : ℕ) → inclusion-root-lts.Need-sub-inclusion-root (calls t) (inclusion-root-at t) inclusion-root.Post
 inclusion-root-sub-inclusion-root t c = omega arith
@@ -91,7 +91,7 @@ inclusion-root-returns-3 : (t : ℕ) → inclusion-root-lts.Need-returns-3 (call
 inclusion-root-returns-3 t c =
     let at = c .before .before .before .before in
     let a = entry t at .args in
-    included-high sha256 (a .place) (a .size) (at .split-of .result) (a .leaf .bytes) (a .count) (now (a .path)) (some t at) (more t at) (at .split-of .ensures .0) (c .node2 .ensures) (c .before .before .before .if2 .left) (c .before .node-at2 .ensures ∙ hash-in (a .count - 1) (now (a .path)) (omega (arith, some t at))) (c .before .before .inclusion-root2 .ensures)
+    included-high (hashOf (a .alg)) (a .place) (a .size) (at .split-of .result) (a .leaf .bytes) (a .count) (now (a .path)) (some t at) (more t at) (at .split-of .ensures .0) (c .node2 .ensures) (c .before .before .before .if2 .left) (c .before .node-at2 .ensures ∙ hash-in (a .count - 1) (now (a .path)) (omega (arith, some t at))) (c .before .before .inclusion-root2 .ensures)
 
 pub +inclusion-root-spec : {M : Type 1} → statement M
 +inclusion-root-spec = close μ-inclusion-root λ t. inclusion-root-lts.spec (calls t)

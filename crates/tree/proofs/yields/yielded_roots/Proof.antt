@@ -5,7 +5,7 @@ use native.Mathlib.Omega.{arith}
 use lib.ListN.{length}
 use denote.Ref.{now}
 use borrow.Author.Tests.{ltb-false}
-use Rattle.hash.specs.Digest.{sha256}
+use Rattle.hash.specs.Digest.{hashOf}
 use Rattle.tree.proofs.Yielding.{unyielded, none-first, first-past, few-nodes, both-by}
 use Rattle.tree.proofs.yields.yielded_roots.Statement.{statement}
 use Rattle.tree.proofs.yields.yielded_roots.Tie as tie
@@ -20,9 +20,9 @@ returns c =
     let n = a .n in
     let f = a .first .bytes in
     let s = now (a .path) in
-    unyielded sha256 m n f s (a .known)
-    (⊎-elim (λ w. none-first sha256 m n f s (a .known) (w .taken))
-    (λ u. ⊎-elim (λ w. first-past sha256 m n f s (a .known) (w .1 .taken)) (λ w. few-nodes sha256 m n f s (a .known) _ (c .before .subproof-count .ensures) (w .2 .taken)) u)
+    unyielded (hashOf (a .alg)) m n f s (a .known)
+    (⊎-elim (λ w. none-first (hashOf (a .alg)) m n f s (a .known) (w .taken))
+    (λ u. ⊎-elim (λ w. first-past (hashOf (a .alg)) m n f s (a .known) (w .1 .taken)) (λ w. few-nodes (hashOf (a .alg)) m n f s (a .known) _ (c .before .subproof-count .ensures) (w .2 .taken)) u)
     (c .if1 .came))
 
 consistency-roots-requires : tie.Need-consistency-roots-requires
@@ -37,7 +37,7 @@ returns-2 c =
     let a = c .before .before .before .before .before .before .args in
     let l = ltb-false (a .n) (a .m) (c .before .before .if2 .left) in
     let h = ltb-false (length (now (a .path)) / 32) (c .before .before .before .before .subproof-count .result) (c .before .if3 .left) in
-    both-by sha256 (a .m) (a .n) (a .first .bytes) (now (a .path)) (a .known) _ (omega arith) l (c .before .before .before .before .subproof-count .ensures) (omega arith) (c .consistency-roots .ensures)
+    both-by (hashOf (a .alg)) (a .m) (a .n) (a .first .bytes) (now (a .path)) (a .known) _ (omega arith) l (c .before .before .before .before .subproof-count .ensures) (omega arith) (c .consistency-roots .ensures)
 
 pub yielded-roots-spec : {M : Type 1} → statement M
 yielded-roots-spec = tie.close (tie.spec subproof-count-requires returns consistency-roots-requires returns-2)
