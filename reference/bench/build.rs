@@ -1,6 +1,7 @@
-//! Builds plain.c with gcc -O3, once as it is and once without the vectoriser, and
-//! links both. The proved library comes with the crate `link`. MTA_BEFORE names the
-//! folder of an earlier libmta.a: what it is timed by is linked too, under other names.
+//! Builds plain.c with gcc -O3, as it is and without the vectoriser, SM3's constants
+//! rotated in the round and in a table, and links all four. The proved library comes with
+//! the crate `link`. MTA_BEFORE names the folder of an earlier libmta.a: what it is timed
+//! by is linked too, under other names.
 
 use std::path::PathBuf;
 use std::process::Command;
@@ -13,10 +14,11 @@ fn main() {
     let out = PathBuf::from(std::env::var("OUT_DIR").unwrap());
     let library = out.join("libplain.a");
     let _ = std::fs::remove_file(&library);
-    for (object, more) in [("plain.o", &[][..]), ("scalar.o", &["-fno-tree-vectorize", "-DSCALAR"][..])] {
-        let object = out.join(object);
+    let (scalar, table) = ("-fno-tree-vectorize", "-DTABLE");
+    for (prefix, more) in [("plain", &[][..]), ("scalar", &[scalar]), ("table", &[table]), ("scalar_table", &[scalar, table])] {
+        let object = out.join(format!("{prefix}.o"));
         let mut gcc = Command::new("gcc");
-        gcc.args(["-std=c11", "-Wall", "-Wextra", "-O3", "-fPIC"]).args(more).args(["-c", "-o"]);
+        gcc.args(["-std=c11", "-Wall", "-Wextra", "-O3", "-fPIC"]).arg(format!("-DPLAIN(name)={prefix}_##name")).args(more).args(["-c", "-o"]);
         run(gcc.arg(&object).arg(here.join("plain.c")));
         run(Command::new("ar").arg("rcs").arg(&library).arg(&object));
     }

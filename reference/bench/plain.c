@@ -5,12 +5,8 @@
 #include <stdint.h>
 #include <string.h>
 
-/* Built with gcc's vectoriser and, under other names, without it. */
-#ifdef SCALAR
-#define PLAIN(name) scalar_##name
-#else
-#define PLAIN(name) plain_##name
-#endif
+/* build.rs defines PLAIN(name), which puts a prefix of its own before the names of each build: with gcc's vectoriser
+   and without it, and both with TABLE too, where SM3's constants are rotated beforehand. */
 
 static const uint32_t K[64] = {
     0x428a2f98, 0x71374491, 0xb5c0fbcf, 0xe9b5dba5, 0x3956c25b, 0x59f111f1, 0x923f82a4, 0xab1c5ed5,
@@ -28,7 +24,7 @@ static const uint32_t INITIAL[8] = {
 };
 
 #define ROTR(x, n) (((x) >> (n)) | ((x) << (32 - (n))))
-#define ROTL(x, n) (((x) << (n)) | ((x) >> (32 - (n))))
+#define ROTL(x, n) (((x) << (n)) | ((x) >> (-(n) & 31))) /* n from 0 to 31 */
 #define CH(x, y, z) (((x) & (y)) ^ (~(x) & (z)))
 #define MAJ(x, y, z) (((x) & (y)) ^ ((x) & (z)) ^ ((y) & (z)))
 #define BIG0(x) (ROTR(x, 2) ^ ROTR(x, 13) ^ ROTR(x, 22))
@@ -73,7 +69,12 @@ static const uint32_t SM3_INITIAL[8] = {
     0x7380166f, 0x4914b2b9, 0x172442d7, 0xda8a0600, 0xa96f30bc, 0x163138aa, 0xe38dee4d, 0xb0fb0e4e,
 };
 
-/* Tj <<< (j mod 32), where Tj is 79cc4519 for the first 16 rounds and 7a879d8a for the others: a table, as of SHA-256. */
+/* Tj <<< (j mod 32), where Tj is 79cc4519 for the first 16 rounds and 7a879d8a for the others: as the standard writes
+   it, rotated in each round; or out of a table, as of SHA-256. */
+#ifndef TABLE
+#define CONSTANT(j) ROTL((j) < 16 ? 0x79cc4519u : 0x7a879d8au, (j) % 32)
+#else
+#define CONSTANT(j) T[j]
 static const uint32_t T[64] = {
     0x79cc4519, 0xf3988a32, 0xe7311465, 0xce6228cb, 0x9cc45197, 0x3988a32f, 0x7311465e, 0xe6228cbc,
     0xcc451979, 0x988a32f3, 0x311465e7, 0x6228cbce, 0xc451979c, 0x88a32f39, 0x11465e73, 0x228cbce6,
@@ -84,6 +85,7 @@ static const uint32_t T[64] = {
     0x9d8a7a87, 0x3b14f50f, 0x7629ea1e, 0xec53d43c, 0xd8a7a879, 0xb14f50f3, 0x629ea1e7, 0xc53d43ce,
     0x8a7a879d, 0x14f50f3b, 0x29ea1e76, 0x53d43cec, 0xa7a879d8, 0x4f50f3b1, 0x9ea1e762, 0x3d43cec5,
 };
+#endif
 
 #define P0(x) ((x) ^ ROTL(x, 9) ^ ROTL(x, 17))
 #define P1(x) ((x) ^ ROTL(x, 15) ^ ROTL(x, 23))
@@ -95,7 +97,7 @@ static const uint32_t T[64] = {
 #define SM3_ROUND(f1, g1)                                                                                              \
     do {                                                                                                               \
         uint32_t rotated = ROTL(a, 12);                                                                                \
-        uint32_t sum = rotated + e + T[j];                                                                             \
+        uint32_t sum = rotated + e + CONSTANT(j);                                                                      \
         uint32_t ss1 = ROTL(sum, 7);                                                                                   \
         uint32_t ss2 = ss1 ^ rotated;                                                                                  \
         uint32_t tt1 = f1(a, b, c) + d + ss2 + w[68 + j];                                                              \

@@ -1,5 +1,5 @@
 -- What an auditor's record holds over every list of calls: the head that was accepted last, which never goes back. Assumes nothing.
-use mathlib.Core.Path.{_≡_, refl, ap, ap₂, _∙_}
+use mathlib.Core.Path.{_≡_, refl, sym, ap, ap₂, _∙_}
 use mathlib.Core.Bool.{Bool, true, false}
 use mathlib.Core.Logic.{_⊎_, inl, inr}
 use mathlib.Core.List.{List, [], _∷_, _++_, map}
@@ -8,6 +8,8 @@ use native.Mathlib.Omega.{arith}
 use lib.Dec.{ltb, eqb}
 use lib.ListN.{length}
 use borrow.Author.Tests.{ltb-false, eqb-true, eqb-false}
+use Rattle.hash.specs.declared.Named.the-variants.{Unknown}
+use Rattle.hash.specs.Algorithm.{algorithmOf, heldBy}
 use Rattle.hash.specs.Digest.{hashOf}
 use Rattle.octets.specs.Limits.{mostItem}
 use Rattle.tree.specs.Limits.{largestSize}
@@ -15,15 +17,15 @@ use Rattle.tree.specs.Verdict.{inclusionVerdict, consistencyVerdict}
 use Rattle.tree.proofs.Counting.{bounds}
 use Rattle.tree.proofs.Accepting.{pass, consistency-accepted}
 use Rattle.auditor.specs.declared.Record.{Record}
-use Rattle.auditor.specs.Held.{Held, empty, head, view, emptyRecord}
+use Rattle.auditor.specs.Held.{Held, empty, head, view, choice, emptyRecord}
 use Rattle.auditor.specs.Offer.{kept}
 use Rattle.auditor.specs.Page.{pageNumber}
 use Rattle.auditor.specs.Heads.{Heads, then}
 use Rattle.auditor.specs.Calls.{Call, offer, ask, Entry, answered, Numbered, under, plain, called, entry, answers, final, callOf, accepted, paperNumber, paperAfter, run, heads}
 use Rattle.auditor.specs.Timestamps.{OneHeadEach, OneTimestamp}
-use Rattle.auditor.specs.Claims.{lastHead, HeldIsAccepted, RefusedAddNothing, NeverBack}
-use Rattle.auditor.proofs.Offering.{taken}
-use Rattle.auditor.proofs.Numbering.{afterCall, went, stays, view-after, callsOf, one-hash-of, two-accepted, holds-nothing, all-numbered}
+use Rattle.auditor.specs.Claims.{lastHead, HeldIsAccepted, RefusedAddNothing, SixteenFirst, NeverBack}
+use Rattle.auditor.proofs.Offering.{taken, view-empty}
+use Rattle.auditor.proofs.Numbering.{afterCall, called-16, went, stays, held-choice, free-choice, bound-other, offers-first, first-number, view-after, callsOf, one-hash-of, two-accepted, holds-nothing, all-numbered}
 use Rattle.auditor.proofs.Reading.{Fits}
 
 -- an entry of a call
@@ -77,6 +79,36 @@ pub refused-add-nothing : RefusedAddNothing
 unfolding Adds answers entry final accepted
 refused-add-nothing r [] = (refl, refl)
 refused-add-nothing r (under n c ∷ calls) = one-call r n c calls (called r (under n c) .number) refl (refused-add-nothing (called r (under n c) .after) calls)
+
+-- ---- 16 before all else
+
+-- a number that names nothing by itself names nothing where one is held, and where the one held names nothing none does
+held-unknown : (h n : ℕ) (t : Bool) → eqb n h ≡ t → algorithmOf n ≡ Unknown → heldBy h n ≡ Unknown
+unfolding heldBy
+held-unknown h n true q e = rw q e
+held-unknown h n false q e = rw q refl
+
+unknown-choice : (r : Record) (n : ℕ) → algorithmOf n ≡ Unknown → (b : Bool) → r .held ≡ b → choice r n ≡ Unknown
+unknown-choice r n e true h = held-choice r n h ∙ held-unknown (r .algorithm) n (eqb n (r .algorithm)) refl e
+unknown-choice r n e false h = free-choice r n h ∙ e
+
+never-held : (h n : ℕ) (t : Bool) → eqb n h ≡ t → algorithmOf h ≡ Unknown → heldBy h n ≡ Unknown
+unfolding heldBy
+never-held h n true q e = rw q (ap algorithmOf (eqb-true n h q) ∙ e)
+never-held h n false q e = rw q refl
+
+pub sixteen-first : SixteenFirst
+sixteen-first =
+    record {
+      unknown = λ r n c e. called-16 r n c (unknown-choice r n e (r .held) refl);
+      another = λ r n c h d. called-16 r n c (bound-other r n h d);
+      never = λ r n c h e. called-16 r n c (held-choice r n h ∙ never-held (r .algorithm) n (eqb n (r .algorithm)) refl e);
+      binds = λ r n c h e.
+          let g = went r n c e in
+          let z = ap (λ (v : Held). paperNumber (hashOf (g .by)) v c) (sym (view-empty r h)) ∙ g .accepts in
+          let b = offers-first (hashOf (g .by)) n r c (g .by) z (sym (free-choice r n h) ∙ g .chose) in
+          rw (g .next) (b .holds, sym (first-number (hashOf (g .by)) n r c z));
+    }
 
 module _ (H : List ℕ → List ℕ) where
   -- each entry's number is what its call answers over the record then held

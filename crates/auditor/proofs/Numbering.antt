@@ -106,7 +106,7 @@ named-one f = cc
 named-none : (b : Algorithm) → Unknown ≡ By b → ⊥
 named-none b f = let y : _≡_ {A = ℕ} 0 1 = cc in omega arith
 
-held-choice : (r : Record) (n : ℕ) → r .held ≡ true → choice r n ≡ heldBy (r .algorithm) n
+pub held-choice : (r : Record) (n : ℕ) → r .held ≡ true → choice r n ≡ heldBy (r .algorithm) n
 unfolding choice
 held-choice r n e = rw e
 
@@ -185,7 +185,7 @@ pub record OneHash (es : List (Numbered Entry)) : Type 0 where
   pub alg : Algorithm
   pub runs : RunsUnder alg empty es
 
-offers-first : (H : List ℕ → List ℕ) (n : ℕ) (r : Record) (c : Call) (a : Algorithm) → paperNumber H empty c ≡ 0 → algorithmOf n ≡ By a → Bound a (afterCall n r c 0)
+pub offers-first : (H : List ℕ → List ℕ) (n : ℕ) (r : Record) (c : Call) (a : Algorithm) → paperNumber H empty c ≡ 0 → algorithmOf n ≡ By a → Bound a (afterCall n r c 0)
 unfolding paperNumber pageNumber afterCall keptRecord holding
 offers-first H n r (offer id time size root path) a e f = record { holds = refl; named = f }
 offers-first H n r (ask place page path) a e f = absurd (omega (arith, e))
@@ -324,7 +324,7 @@ unfolding afterCall keptRecord holding
 after-number n r (offer id time size root path) e = e
 after-number n r (ask place page path) e = refl
 
-first-number : (H : List ℕ → List ℕ) (n : ℕ) (r : Record) (c : Call) → paperNumber H empty c ≡ 0 → n ≡ afterCall n r c 0 .algorithm
+pub first-number : (H : List ℕ → List ℕ) (n : ℕ) (r : Record) (c : Call) → paperNumber H empty c ≡ 0 → n ≡ afterCall n r c 0 .algorithm
 unfolding paperNumber pageNumber afterCall keptRecord holding
 first-number H n r (offer id time size root path) e = refl
 first-number H n r (ask place page path) e = absurd (omega (arith, e))

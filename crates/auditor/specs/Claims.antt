@@ -1,11 +1,13 @@
 -- What else is proved of every list of calls. Assumes nothing: these are statements.
 use mathlib.Core.Path.{_≡_}
+use mathlib.Core.Bool.{true, false}
 use mathlib.Core.Logic.{_⊎_}
 use mathlib.Core.List.{List, [], _∷_, _++_, map}
 use Prim.Native.Nat.{ℕ, zero, suc, _*_, _≤_, _<_}
 use lib.ListN.{length, take, getD}
 use Rattle.hash.specs.declared.Algorithm.{Algorithm}
-use Rattle.hash.specs.Algorithm.{numberOf}
+use Rattle.hash.specs.declared.Named.the-variants.{Unknown}
+use Rattle.hash.specs.Algorithm.{numberOf, algorithmOf}
 use Rattle.hash.specs.Digest.{hashOf}
 use Rattle.octets.specs.Limits.{mostItem}
 use Rattle.tree.specs.Limits.{largestSize}
@@ -16,10 +18,10 @@ use Rattle.growing.specs.Hashes.{fresh, rootNow}
 use Rattle.growing.specs.Calls as growing
 use Rattle.octets.specs.Answer.{Answer}
 use Rattle.auditor.specs.declared.Record.{Record}
-use Rattle.auditor.specs.Held.{Held, empty, head, view, emptyRecord}
+use Rattle.auditor.specs.Held.{Held, empty, head, view, stayed, emptyRecord}
 use Rattle.auditor.specs.Heads.{lastSize, lastRoot, joinedHeads, headsOf}
 use Rattle.auditor.specs.Dispute.{Ruling, disputeBy, disputeReport}
-use Rattle.auditor.specs.Calls.{Call, offer, ask, Entry, answered, Numbered, under, plain, answers, final, AllUnder, callOf, accepted, heads}
+use Rattle.auditor.specs.Calls.{Call, offer, ask, Entry, answered, Numbered, under, plain, called, answers, final, AllUnder, callOf, accepted, heads}
 use Rattle.carry.specs.Limits.{pairBytes}
 
 -- the head of the last accepted offer
@@ -54,6 +56,16 @@ NeverBack =
     ≡ before ++ (under n₁ (answered (offer id₁ time₁ size₁ root₁ path₁) 0) ∷ (between ++ (under n₂ (answered (offer id₂ time₂ size₂ root₂ path₂) 0) ∷ rest))) →
     (n₁ ≡ n₂) × (id₁ ≡ id₂) × (size₁ ≤ size₂) × (size₁ ≡ size₂ → root₁ ≡ root₂)
     × ((time₁ < time₂) ⊎ (head id₁ time₁ size₁ root₁ ≡ head id₂ time₂ size₂ root₂))
+
+-- 16 comes before all else and changes nothing, whatever the record and the call: by a number that no hash has, by another than the one held, and by any where
+-- the one held names no hash. The first accepted call leaves its number.
+pub record SixteenFirst : Type 0 where
+  pub unknown : (r : Record) (n : ℕ) (c : Call) → algorithmOf n ≡ Unknown → called r (under n c) ≡ stayed 16 r
+  pub another : (r : Record) (n : ℕ) (c : Call) → r .held ≡ true → (n ≡ r .algorithm → ⊥) → called r (under n c) ≡ stayed 16 r
+  pub never : (r : Record) (n : ℕ) (c : Call) → r .held ≡ true → algorithmOf (r .algorithm) ≡ Unknown → called r (under n c) ≡ stayed 16 r
+  pub binds :
+      (r : Record) (n : ℕ) (c : Call) → r .held ≡ false → called r (under n c) .number ≡ 0 →
+      (called r (under n c) .after .held ≡ true) × (called r (under n c) .after .algorithm ≡ n)
 
 -- An honest log: its hash, its id, and its pages in order.
 module _ (H : List ℕ → List ℕ) (id : List ℕ) (pages : List (List ℕ)) where

@@ -101,8 +101,8 @@ fn settle(
     pair: &mut [u8],
 ) -> Settled
     ensures { λ r. ⌜
-        (let compared = compareTo (hashOf alg) place size (now (root .entry)) (now (leaf1 .entry)) (now (path1 .entry)) (now (leaf2 .entry)) (now (path2 .entry))
-        (length (now (pair .entry))) in
+        (let compared = compareTo (hashOf alg) place size (now (root .entry)) (now (leaf1 .entry)) (now (path1 .entry))
+        (now (leaf2 .entry)) (now (path2 .entry)) (length (now (pair .entry))) in
         let o = settled (now (page1 .entry)) (now (page2 .entry)) compared in
         (settling r ≡ disputeReport o) × (now (pair .exit) ≡ pairDisputed o (now (pair .entry)))) ⌝ }
 {

@@ -19,7 +19,7 @@ ghost use Rattle.auditor.specs.Demand.{Demand3, WhateverGiven, TwoAudito
 ghost use Rattle.auditor.specs.Keeping.{JournalJoins, AppendedReadsBack, LongEnough, AsKept};
 ghost use Rattle.auditor.specs.Examples.{Disputed};
 ghost use Rattle.auditor.specs.Timestamps.{OneTimestamp, HeldAgain, OnlyStricter};
-ghost use Rattle.auditor.specs.Claims.{HeldIsAccepted, RefusedAddNothing, NeverBack, HonestLog, GrownHeads};
+ghost use Rattle.auditor.specs.Claims.{HeldIsAccepted, RefusedAddNothing, SixteenFirst, NeverBack, HonestLog, GrownHeads};
 use bytes::no_id;
 use bytes::no_root;
 use hash::Named;
@@ -90,6 +90,7 @@ pub fn claims()
     ensures two_auditors { λ _. ⌜ TwoAuditors ⌝ }
     ensures held_is_accepted { λ _. ⌜ HeldIsAccepted ⌝ }
     ensures refused_add_nothing { λ _. ⌜ RefusedAddNothing ⌝ }
+    ensures sixteen_first { λ _. ⌜ SixteenFirst ⌝ }
     ensures never_back { λ _. ⌜ NeverBack ⌝ }
     ensures one_timestamp { λ _. ⌜ OneTimestamp ⌝ }
     ensures held_again { λ _. ⌜ HeldAgain ⌝ }

@@ -2,10 +2,15 @@
 use mathlib.Core.Bool.{true, false}
 use mathlib.Core.Path.{_≡_, refl, sym, ap, _∙_}
 use mathlib.Core.List.{List}
-use Prim.Native.Nat.{ℕ}
+use Prim.Native.Nat.{ℕ, _≤_}
 use native.Mathlib.Omega.{arith}
 use lib.Dec.{eqb}
+use lib.ListN.{length}
 use borrow.Author.Tests.{eq-eqb, ne-eqb, eqb-true}
+use Rattle.words.specs.declared.State.{State}
+use Rattle.words.specs.Words.{wordFrom}
+use Rattle.words.specs.Answers.{Compression, Scheduling, valueAfter}
+use Rattle.words.proofs.Promises.{block-taken}
 use Rattle.sha256.proofs.Promises as sha-laws
 use Rattle.sm3.proofs.Promises as sm-laws
 use Rattle.hash.specs.declared.Algorithm.{Algorithm}
@@ -13,6 +18,7 @@ use Rattle.hash.specs.declared.Algorithm.the-variants.{Sha256, Sm3}
 use Rattle.hash.specs.declared.Named.{Named}
 use Rattle.hash.specs.declared.Named.the-variants.{By, Unknown}
 use Rattle.hash.specs.Algorithm.{numberOf, algorithmOf, heldBy, stepOf}
+use Rattle.hash.specs.Message.{absorbed}
 use Rattle.hash.specs.Digest.{hashOf, byNamed, byNumber}
 use Rattle.hash.proofs.Padding.{ByWords}
 
@@ -21,6 +27,13 @@ pub step-same : (a : Algorithm) → ByWords (stepOf a)
 unfolding stepOf
 step-same Sha256 = sha-laws.compress-same
 step-same Sm3 = sm-laws.compress-same
+
+-- two blocks, one after the other, in a schedule of n words
+pub both-taken : (n : ℕ) (C : Compression) (S : Scheduling) (s r t : State) (m w v : List ℕ) → 128 ≤ length m → length w ≡ n → length v ≡ n →
+    r ≡ valueAfter n C s m 0 w → t ≡ valueAfter n C r m 64 v → t ≡ absorbed C s m 2
+unfolding absorbed
+both-taken n C S s r t m w v l h k e f =
+    f ∙ sym (block-taken n C S r m v 64 (omega arith) k .0) ∙ ap (λ (x : State). C x (wordFrom m 64)) (e ∙ sym (block-taken n C S s m w 0 (omega arith) h .0))
 
 -- ---- what a number names
 

@@ -1,5 +1,5 @@
-// A message, padded and taken in block by block (FIPS 180-4, sections 5.1.1 and 6.2), by the block step of either hash. Whole blocks are read where they lie; what is left at the end
-// goes with the padding into one array of two blocks.
+// A message, padded and taken in block by block (FIPS 180-4, sections 5.1.1 and 6.2), by the block step of either hash. Whole blocks are read where they
+// lie; what is left at the end goes with the padding into one array of two blocks.
 ghost use mathlib.Core.Path.{_≡_};
 ghost use mathlib.Core.List.{_++_, _∷_};
 ghost use Prim.Native.Nat.{_+_, _-_, _*_, _/_, _%_, _^_, _<_, _≤_};
@@ -7,6 +7,7 @@ ghost use lib.ListN.{length, take, drop, replicate};
 ghost use Rattle.octets.specs.Bytes.{put as putBytes};
 ghost use Rattle.octets.specs.Numbers.{be};
 ghost use Rattle.words.specs.Words.{wordFrom};
+ghost use Rattle.hash.specs.declared.Algorithm.the-variants.{Sha256, Sm3};
 ghost use Rattle.hash.specs.Algorithm.{startOf, stepOf, wordsOf};
 ghost use Rattle.hash.specs.Message.{ending, absorbed, hashValue, stateBytes};
 use super::Algorithm;
@@ -154,30 +155,32 @@ fn pack_node(left: &[u8; 32], right: &[u8; 32], a: &mut [u8])
     put(a, 120, &b);
 }
 
-// The hash value after 0x01, left and right (RFC 9162, section 2.1.1), in a lent schedule.
-fn node_in(alg: Algorithm, left: &[u8; 32], right: &[u8; 32], w: &mut [u32]) -> State
-    requires { ⌜ length (now w) ≡ wordsOf alg ⌝ }
+// The hash value after two blocks of SHA-256, and of SM3: in a node the choice is made once for both.
+fn both_sha256(a: &[u8; 128]) -> State
+    ensures { λ r. ⌜ r ≡ absorbed (stepOf Sha256) (startOf Sha256) (now (a .entry)) 2 ⌝ }
+{
+    let mut w = [0u32; 64];
+    let t = sha256::step_at(sha256::initial(), a, 0, &mut w);
+    sha256::step_at(t, a, 64, &mut w)
+}
+
+fn both_sm3(a: &[u8; 128]) -> State
+    ensures { λ r. ⌜ r ≡ absorbed (stepOf Sm3) (startOf Sm3) (now (a .entry)) 2 ⌝ }
+{
+    let mut w = [0u32; 132];
+    let t = sm3::step_at(sm3::initial(), a, 0, &mut w);
+    sm3::step_at(t, a, 64, &mut w)
+}
+
+// The hash value after 0x01, left and right (RFC 9162, section 2.1.1).
+pub(crate) fn node_of(alg: Algorithm, left: &[u8; 32], right: &[u8; 32]) -> State
     ensures { λ r. ⌜ r ≡ hashValue (stepOf alg) (startOf alg) (1 ∷ (now (left .entry) ++ now (right .entry))) ⌝ }
 {
     let mut a = [0u8; 128];
     pack_node(left, right, &mut a);
-    let t = compress(alg, initial(alg), &a, 0, w);
-    compress(alg, t, &a, 64, w)
-}
-
-// The same in a schedule of its own.
-pub(crate) fn node_of(alg: Algorithm, left: &[u8; 32], right: &[u8; 32]) -> State
-    ensures { λ r. ⌜ r ≡ hashValue (stepOf alg) (startOf alg) (1 ∷ (now (left .entry) ++ now (right .entry))) ⌝ }
-{
     match alg {
-        Algorithm::Sha256 => {
-            let mut w = [0u32; 64];
-            node_in(alg, left, right, &mut w)
-        }
-        Algorithm::Sm3 => {
-            let mut w = [0u32; 132];
-            node_in(alg, left, right, &mut w)
-        }
+        Algorithm::Sha256 => both_sha256(&a),
+        Algorithm::Sm3 => both_sm3(&a),
     }
 }
 

@@ -1,6 +1,7 @@
 // The Merkle tree of RFC 9162, section 2.1, over the node hash of the crate `hash`: builders of roots, inclusion paths and consistency
 // paths from leaf hashes, and the verdicts on inclusion and consistency proofs. What crates above build on is public, takes any numbers and any
-// buffers, and goes by an `Algorithm`; the entries, in by_number, go by its number. specs/ has the definitions over any hash; proofs/ has the laws that crates above may cite.
+// buffers, and goes by an `Algorithm`; the entries, in by_number, go by its number. specs/ has the definitions over any hash; proofs/ has the laws
+// that crates above may cite.
 pub mod by_number; // the entries: builders and verdicts by the number of a hash
 pub mod build; // roots and paths, from joined leaf hashes into a lent output
 pub mod verdict; // both verdicts

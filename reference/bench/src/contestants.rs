@@ -68,8 +68,11 @@ pub const OURS: Sha256 = ours!(SHA256, mta_step);
 pub const OUR_SM3: Sm3 = ours!(SM3, mta_sm3_step);
 
 pub const PLAIN_C: Sha256 = plain_c!("plain C", plain_digest, plain_leaf, plain_node, plain_step);
-pub const PLAIN_C_SM3: Sm3 = plain_c!("plain C", plain_sm3_digest, plain_sm3_leaf, plain_sm3_node, plain_sm3_step);
+pub const PLAIN_C_SM3: Sm3 = plain_c!("C", plain_sm3_digest, plain_sm3_leaf, plain_sm3_node, plain_sm3_step);
 pub const SCALAR_C_SM3: Sm3 = plain_c!("C, no vector", scalar_sm3_digest, scalar_sm3_leaf, scalar_sm3_node, scalar_sm3_step);
+pub const TABLE_C_SM3: Sm3 = plain_c!("C, table", table_sm3_digest, table_sm3_leaf, table_sm3_node, table_sm3_step);
+pub const SCALAR_TABLE_C_SM3: Sm3 =
+    plain_c!("C, table, no vector", scalar_table_sm3_digest, scalar_table_sm3_leaf, scalar_table_sm3_node, scalar_table_sm3_step);
 
 pub const PLAIN_RUST: Sha256 = Contestant {
     name: "plain Rust",

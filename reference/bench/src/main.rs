@@ -11,7 +11,8 @@ mod library;
 mod openssl;
 mod pairs;
 
-use contestants::{Contestant, OURS, OUR_SM3, PLAIN_C, PLAIN_C_SM3, PLAIN_RUST, PLAIN_RUST_SM3, SCALAR_C_SM3};
+use contestants::{Contestant, OURS, PLAIN_C, PLAIN_RUST};
+use contestants::{OUR_SM3, PLAIN_C_SM3, PLAIN_RUST_SM3, SCALAR_C_SM3, SCALAR_TABLE_C_SM3, TABLE_C_SM3};
 use std::hint::black_box;
 use std::io::{BufRead, BufReader, Write};
 use std::process::{Child, ChildStdin, ChildStdout, Command, Stdio};
@@ -193,9 +194,12 @@ fn print_hash<const WORDS: usize>(
     jobs: &[(String, Job)],
     target: impl Fn(Job) -> &'static str,
 ) {
+    let ratio_heads: Vec<String> = ratios.iter().map(|place| format!("{} / ours", heads[*place])).collect();
+    let widths: Vec<usize> = heads.iter().map(|head| 14.max(head.len() + 2)).collect();
+    let ratio_widths: Vec<usize> = ratio_heads.iter().map(|head| 20.max(head.len() + 2)).collect();
     print!("{:<18}", "");
-    heads.iter().for_each(|head| print!("{head:>14}"));
-    ratios.iter().for_each(|place| print!("{:>20}", format!("{} / ours", heads[*place])));
+    heads.iter().zip(&widths).for_each(|(head, width)| print!("{head:>width$}"));
+    ratio_heads.iter().zip(&ratio_widths).for_each(|(head, width)| print!("{head:>width$}"));
     println!();
     for (index, (name, job)) in jobs.iter().enumerate() {
         let one = best(&[0; 5].map(|_| time(&here[1], *job, 3) / 3.0));
@@ -210,8 +214,8 @@ fn print_hash<const WORDS: usize>(
             }
         }
         let mut line = format!("{name:<18}");
-        all.iter().for_each(|times| line += &format!("{:>14.1}", best(times)));
-        ratios.iter().for_each(|place| line += &format!("{:>20}", ratio(&all[*place], &all[0])));
+        all.iter().zip(&widths).for_each(|(times, width)| line += &format!("{:>width$.1}", best(times)));
+        ratios.iter().zip(&ratio_widths).for_each(|(place, width)| line += &format!("{:>width$}", ratio(&all[*place], &all[0])));
         println!("{}", format!("{line}  {}", target(*job)).trim_end());
     }
     println!();
@@ -231,15 +235,16 @@ fn print_sha256() {
     others.into_iter().for_each(OtherProcess::end);
 }
 
-/// SM3, beside plain C without gcc's vectoriser and with it.
+/// SM3, beside plain C without gcc's vectoriser and with it, the constants rotated in the round and in a table.
 fn print_sm3() {
-    let here = [OUR_SM3, SCALAR_C_SM3, PLAIN_C_SM3, PLAIN_RUST_SM3];
+    let here = [OUR_SM3, SCALAR_C_SM3, PLAIN_C_SM3, SCALAR_TABLE_C_SM3, TABLE_C_SM3, PLAIN_RUST_SM3];
     here.iter().for_each(|contestant| check(contestant, &PLAIN_RUST_SM3));
     let mut others = Vec::new();
     if openssl::is_sm3_here() {
         others.push(OtherProcess::start("openssl-sm3", false));
     }
-    let (heads, ratios) = (["ours", "C, no vector", "C", "plain Rust", "OpenSSL"], [1, 2, 3, 4]);
+    let heads = ["ours", "C, no vector", "C", "C, table, no vector", "C, table", "plain Rust", "OpenSSL"];
+    let ratios = [1, 2, 3, 4, 5, 6];
     let (heads, ratios) = (&heads[..here.len() + others.len()], &ratios[..here.len() - 1 + others.len()]);
     print_hash(&here, &mut others, heads, ratios, &sm3_jobs(), |job| match job {
         Job::Step | Job::Node => "at least 1.15",
@@ -259,7 +264,8 @@ fn main() {
     println!("ratio: the other's time / ours, of the best turns (and the median of each turn's); above 1, ours is faster");
     println!();
     print_sha256();
-    println!("SM3 by its number; plain C by gcc -O3 with the vectoriser off (C, no vector) and on (C)");
+    println!("SM3 by its number; plain C by gcc -O3 with the vectoriser off (no vector) and on");
+    println!("C: the constants rotated in each round, as the standard prints it; C, table: rotated beforehand, in a table");
     println!();
     print_sm3();
     pairs::print_table();
