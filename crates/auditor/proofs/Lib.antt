@@ -7,7 +7,6 @@ pub mod Journaling
 pub mod Reporting
 pub mod Following
 pub mod Disputing
-mod Choosing
 pub mod Numbering
 pub mod Holding
 pub mod Settling

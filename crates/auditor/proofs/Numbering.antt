@@ -103,8 +103,8 @@ pub record Bound (a : Algorithm) (r : Record) : Type 0 where
 pub named-one : {x y : Algorithm} → By x ≡ By y → x ≡ y
 named-one f = cc
 
-named-none : (b : Algorithm) → Unknown ≡ By b → ⊥
-named-none b f = let y : _≡_ {A = ℕ} 0 1 = cc in omega arith
+not-by : (b : Algorithm) → Unknown ≡ By b → ⊥
+not-by b f = let y : _≡_ {A = ℕ} 0 1 = cc in omega arith
 
 pub held-choice : (r : Record) (n : ℕ) → r .held ≡ true → choice r n ≡ heldBy (r .algorithm) n
 unfolding choice
@@ -118,7 +118,7 @@ free-choice r n e = rw e
 held-one : (h n : ℕ) (b : Algorithm) (t : Bool) → eqb n h ≡ t → heldBy h n ≡ By b → (n ≡ h) × (algorithmOf n ≡ By b)
 unfolding heldBy
 held-one h n b true q f = (eqb-true n h q, rw q at f)
-held-one h n b false q f = absurd (named-none b (rw q at f))
+held-one h n b false q f = absurd (not-by b (rw q at f))
 
 pub bound-one : (a : Algorithm) (r : Record) (n : ℕ) → Bound a r → (b : Algorithm) → choice r n ≡ By b → (n ≡ r .algorithm) × (b ≡ a)
 bound-one a r n w b e =

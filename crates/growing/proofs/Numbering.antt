@@ -10,23 +10,14 @@ use Rattle.hash.specs.declared.Hashed.{Hashed}
 use Rattle.hash.specs.declared.Named.{Named}
 use Rattle.hash.specs.declared.Named.the-variants.{By, Unknown}
 use Rattle.hash.specs.Algorithm.{algorithmOf, heldBy}
-use Rattle.hash.specs.Digest.{hashOf, byNamed}
-use Rattle.hash.proofs.Algorithms.{held-itself, held-another, by-known, by-unknown}
+use Rattle.hash.specs.Digest.{hashOf}
+use Rattle.hash.proofs.Algorithms.{held-itself, held-another, named-known, named-none, by-known, by-unknown}
 use Rattle.tree.specs.Build.{refused}
 use Rattle.growing.specs.declared.Growing.{Growing}
 use Rattle.growing.specs.declared.Grown.{Grown}
 use Rattle.growing.specs.Hashes.{digest, nothing, fresh, rootNow}
 use Rattle.growing.specs.Calls.{Call, grownBy, rootInto, treeAfter, Numbered, under, made, grownIn, rootIn, rootIntoIn, treeIn, calledBy}
 use Rattle.growing.proofs.Calling.{refused-unchanged, keeps-number}
-
-module _ {A : Type 0} (named : Named) (refusal : A) (answer : (List ℕ → List ℕ) → A) where
-  named-known : (a : Algorithm) → By a ≡ named → answer (hashOf a) ≡ byNamed named refusal answer
-  unfolding byNamed
-  named-known a e = rw (sym e) refl
-
-  named-none : Unknown ≡ named → refusal ≡ byNamed named refusal answer
-  unfolding byNamed
-  named-none e = rw (sym e) refl
 
 -- ---- what is answered by a number that has a hash, and by one that has none
 

@@ -59,13 +59,22 @@ pub held-another : (held n : ℕ) → (n ≡ held → ⊥) → Unknown ≡ heldB
 unfolding heldBy
 held-another held n d = rw (ne-eqb n held d)
 
--- ---- what is answered by a number
+-- ---- what is answered by what a number names, and by the number
+
+module _ {A : Type 0} (named : Named) (refusal : A) (answer : (List ℕ → List ℕ) → A) where
+  pub named-known : (a : Algorithm) → By a ≡ named → answer (hashOf a) ≡ byNamed named refusal answer
+  unfolding byNamed
+  named-known a e = rw (sym e) refl
+
+  pub named-none : Unknown ≡ named → refusal ≡ byNamed named refusal answer
+  unfolding byNamed
+  named-none e = rw (sym e) refl
 
 module _ {A : Type 0} (n : ℕ) (refusal : A) (answer : (List ℕ → List ℕ) → A) where
   pub by-known : (a : Algorithm) → By a ≡ algorithmOf n → answer (hashOf a) ≡ byNumber n refusal answer
-  unfolding byNumber byNamed
-  by-known a e = rw (sym e) refl
+  unfolding byNumber
+  by-known a e = named-known (algorithmOf n) refusal answer a e
 
   pub by-unknown : Unknown ≡ algorithmOf n → refusal ≡ byNumber n refusal answer
-  unfolding byNumber byNamed
-  by-unknown e = rw (sym e) refl
+  unfolding byNumber
+  by-unknown e = named-none (algorithmOf n) refusal answer e
