@@ -18,7 +18,7 @@ use Rattle.hash.specs.declared.Named.the-variants.{By, Unknown}
 use Rattle.hash.specs.Algorithm.{numberOf, algorithmOf, startOf, stepOf}
 use Rattle.hash.specs.Message.{hashValue, stateBytes}
 use Rattle.hash.specs.Digest.{hashOf, byNumber}
-use Rattle.hash.specs.Claims.{Has32, AreBytes, Numbers, Held, Answered}
+use Rattle.hash.specs.Claims.{Has32, AreBytes, OneNumberEach, HeldAlone, AnsweredBy}
 use Rattle.hash.proofs.Algorithms.{names-sha256, names-sm3, names-none, held-itself, held-another, by-known, by-unknown}
 
 pub hash-length : Has32
@@ -66,7 +66,7 @@ back-is : (n : ℕ) → n ≡ back n (algorithmOf n)
 unfolding algorithmOf
 back-is n = back-cases n (eqb n 0x00) (eqb n 0xF0) refl refl
 
-pub numbers : Numbers
+pub numbers : OneNumberEach
 unfolding back
 numbers =
     record {
@@ -77,10 +77,10 @@ numbers =
       one-number = λ n a e. back-is n ∙ ap (back n) e;
     }
 
-pub held : Held
+pub held : HeldAlone
 held = record { itself = λ n. sym (held-itself n n refl); another = λ h n d. sym (held-another h n d) }
 
-pub answered : (A : Type 0) → Answered A
+pub answered : (A : Type 0) → AnsweredBy A
 answered A =
     record {
       by-sha256 = λ refusal answer. sym (by-known 0x00 refusal answer Sha256 (names-sha256 0x00 refl));

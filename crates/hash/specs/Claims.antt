@@ -19,7 +19,7 @@ abbrev pub AreBytes : Type 0
 AreBytes = (a : Algorithm) (m : List ℕ) (i : ℕ) → getD (hashOf a m) i 0 < 256
 
 -- 0x00 is SHA-256, 0xF0 is SM3, and no other number names a hash, however wide it is
-pub record Numbers : Type 0 where
+pub record OneNumberEach : Type 0 where
   pub first : algorithmOf 0x00 ≡ By Sha256
   pub second : algorithmOf 0xF0 ≡ By Sm3
   pub no-other : (n : ℕ) → (n ≡ 0x00 → ⊥) → (n ≡ 0xF0 → ⊥) → algorithmOf n ≡ Unknown
@@ -28,12 +28,12 @@ pub record Numbers : Type 0 where
   pub one-number : (n : ℕ) (a : Algorithm) → algorithmOf n ≡ By a → n ≡ numberOf a
 
 -- where a number is held, it alone can name a hash, and names what it names by itself
-pub record Held : Type 0 where
+pub record HeldAlone : Type 0 where
   pub itself : (n : ℕ) → heldBy n n ≡ algorithmOf n
   pub another : (held n : ℕ) → (n ≡ held → ⊥) → heldBy held n ≡ Unknown
 
 -- what is answered by a number, of whatever kind the answer is
-pub record Answered (A : Type 0) : Type 0 where
+pub record AnsweredBy (A : Type 0) : Type 0 where
   pub by-sha256 : (refusal : A) (answer : (List ℕ → List ℕ) → A) → byNumber 0x00 refusal answer ≡ answer sha256
   pub by-sm3 : (refusal : A) (answer : (List ℕ → List ℕ) → A) → byNumber 0xF0 refusal answer ≡ answer sm3
   pub by-no-other :
@@ -41,4 +41,4 @@ pub record Answered (A : Type 0) : Type 0 where
 
 -- of a number and of bytes
 abbrev pub AnsweredBoth : Type 0
-AnsweredBoth = Answered ℕ × Answered (List ℕ)
+AnsweredBoth = AnsweredBy ℕ × AnsweredBy (List ℕ)

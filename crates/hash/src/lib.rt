@@ -10,7 +10,7 @@ ghost use Prim.Native.Nat.{_≤_, _<_};
 ghost use lib.ListN.{length};
 ghost use Rattle.hash.specs.Algorithm.{algorithmOf, heldBy};
 ghost use Rattle.hash.specs.Digest.{hashOf, leafHash, nodeHash};
-ghost use Rattle.hash.specs.Claims.{Has32, AreBytes, Numbers, Held, AnsweredBoth};
+ghost use Rattle.hash.specs.Claims.{Has32, AreBytes, OneNumberEach, HeldAlone, AnsweredBoth};
 ghost use Rattle.hash.specs.Answers.{mostInput, valueNumber, valueBytes, intoNumber, intoBytes};
 ghost use Rattle.octets.specs.Limits.{mostItem};
 use message::bytes_of;
@@ -160,7 +160,7 @@ pub fn leaf_into(alg: Algorithm, item: &[u8], out: &mut [u8]) -> u32
 pub fn claims()
     ensures has_32 { λ _. ⌜ Has32 ⌝ }
     ensures are_bytes { λ _. ⌜ AreBytes ⌝ }
-    ensures numbers { λ _. ⌜ Numbers ⌝ }
-    ensures held { λ _. ⌜ Held ⌝ }
+    ensures one_number_each { λ _. ⌜ OneNumberEach ⌝ }
+    ensures held_alone { λ _. ⌜ HeldAlone ⌝ }
     ensures answered { λ _. ⌜ AnsweredBoth ⌝ }
 {}

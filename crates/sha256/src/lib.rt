@@ -1,15 +1,16 @@
 // SHA-256's block step and its first hash value (FIPS 180-4, sections 4.1.2, 4.2.2, 5.3.3 and 6.2.2). Padding, digests and the hashes of the tree are
 // the crate hash's.
 ghost use mathlib.Core.Path.{_≡_};
-ghost use Prim.Native.Nat.{_+_, _*_, _%_, _<_, _≤_};
+ghost use Prim.Native.Nat.{_+_, _<_, _≤_};
 ghost use lib.ListN.{length};
 ghost use Rattle.words.specs.Words.{wordFrom};
+ghost use Rattle.words.specs.Going.{Longer, Goes};
 ghost use Rattle.words.specs.Answers.{stepping, stepAnswer, stepSchedule, valueAfter, scheduleAfter};
 ghost use Rattle.words.specs.Claims.{BlockIsTaken, BlockAtIsTaken};
 ghost use Rattle.sha256.specs.Sha256.{choose, majority, bigSigma0, bigSigma1, smallSigma0, smallSigma1, constants, nextWord, t1Of, t2Of};
 ghost use Rattle.sha256.specs.Sha256.{round as roundOf, addState, compress as compressOf, schedule, initial as initialOf};
 ghost use Rattle.sha256.specs.Claims.{BySixteenWords, ExampleHashes};
-ghost use Rattle.sha256.specs.Inner.{eightWith, eightFrom, Longer, Ran};
+ghost use Rattle.sha256.specs.Inner.{Scheduled, taken, after};
 use words::State;
 use words::Stepped;
 use words::add;
@@ -149,61 +150,12 @@ fn round(s: State, k: u32, w: u32) -> State
     }
 }
 
-fn eight(
-    s: State,
-    k0: u32,
-    w0: u32,
-    k1: u32,
-    w1: u32,
-    k2: u32,
-    w2: u32,
-    k3: u32,
-    w3: u32,
-    k4: u32,
-    w4: u32,
-    k5: u32,
-    w5: u32,
-    k6: u32,
-    w6: u32,
-    k7: u32,
-    w7: u32,
-) -> State
-    ensures { λ r. ⌜ r ≡ eightWith s k0 w0 k1 w1 k2 w2 k3 w3 k4 w4 k5 w5 k6 w6 k7 w7 ⌝ }
+// Round t. The table is lent: an index into the constant itself would build the table anew at each read.
+fn round_at(s: State, w: &[u32], k: &[u32; 64], t: usize) -> State
+    requires { ⌜ (t < 64) × (length (now w) ≡ 64) ⌝ }
+    ensures { λ r. ⌜ r ≡ taken (now (k .entry)) (now (w .entry)) s t ⌝ }
 {
-    let s1 = round(s, k0, w0);
-    let s2 = round(s1, k1, w1);
-    let s3 = round(s2, k2, w2);
-    let s4 = round(s3, k3, w3);
-    let s5 = round(s4, k4, w4);
-    let s6 = round(s5, k5, w5);
-    let s7 = round(s6, k6, w6);
-    round(s7, k7, w7)
-}
-
-// The eight rounds from t on. The table is lent: an index into the constant itself would build the table anew at each read.
-fn eight_at(s: State, w: &[u32], k: &[u32; 64], t: usize) -> State
-    requires { ⌜ (t < 57) × (length (now w) ≡ 64) ⌝ }
-    ensures { λ r. ⌜ r ≡ eightFrom (now (k .entry)) (now (w .entry)) s t ⌝ }
-{
-    eight(
-        s,
-        k[t],
-        w[t],
-        k[t + 1],
-        w[t + 1],
-        k[t + 2],
-        w[t + 2],
-        k[t + 3],
-        w[t + 3],
-        k[t + 4],
-        w[t + 4],
-        k[t + 5],
-        w[t + 5],
-        k[t + 6],
-        w[t + 6],
-        k[t + 7],
-        w[t + 7],
-    )
+    round(s, k[t], w[t])
 }
 
 fn next(w2: u32, w7: u32, w15: u32, w16: u32) -> u32
@@ -212,35 +164,61 @@ fn next(w2: u32, w7: u32, w15: u32, w16: u32) -> u32
     add(add(add(small_sigma1(w2), w7), small_sigma0(w15)), w16)
 }
 
-// Eight words more of the schedule, where it isn't whole.
+// Word n of the schedule.
 fn lengthen(w: &mut [u32], n: usize)
-    requires { ⌜ (15 < n) × (n < 80) × (n % 8 ≡ 0) × (length (now w) ≡ 64) ⌝ }
-    ensures { λ _. ⌜ Longer (now (w .entry)) n (now (w .exit)) (n + 8) ⌝ }
+    requires { ⌜ (15 < n) × (n < 64) × (length (now w) ≡ 64) ⌝ }
+    ensures { λ _. ⌜ Longer Scheduled (now (w .entry)) n (now (w .exit)) ⌝ }
 {
-    if n > 56 {
-        return;
-    }
-    let mut j = 0;
-    while j < 8 {
-        let u = n + j;
-        w[u] = next(w[u - 2], w[u - 7], w[u - 15], w[u - 16]);
-        j += 1;
-    }
+    w[n] = next(w[n - 2], w[n - 7], w[n - 15], w[n - 16]);
 }
 
-// The 64 rounds, eight at a time, with the schedule's words made as they are needed.
+// Four rounds, each with a word of later rounds: the processor makes the word while the round waits for itself.
+fn four(s: State, w: &mut [u32], k: &[u32; 64], t: usize) -> State
+    requires { ⌜ (t < 45) × (length (now w) ≡ 64) × (now k ≡ constants) ⌝ }
+    ensures { λ r. ⌜ Goes after Scheduled s (now (w .entry)) t (t + 16) r (now (w .exit)) (t + 4) (t + 20) ⌝ }
+{
+    let mut v = s;
+    let mut j = 0;
+    while j < 4 {
+        v = round_at(v, w, k, t + j);
+        lengthen(w, t + j + 16);
+        j += 1;
+    }
+    v
+}
+
+// Four of the last rounds.
+fn last_four(s: State, w: &[u32], k: &[u32; 64], t: usize) -> State
+    requires { ⌜ (t < 61) × (length (now w) ≡ 64) × (now k ≡ constants) ⌝ }
+    ensures { λ r. ⌜ Goes after Scheduled s (now (w .entry)) t 64 r (now (w .entry)) (t + 4) 64 ⌝ }
+{
+    let mut v = s;
+    let mut j = 0;
+    while j < 4 {
+        v = round_at(v, w, k, t + j);
+        j += 1;
+    }
+    v
+}
+
+// The 64 rounds, four at a time.
 fn run(s: State, w: &mut [u32], k: &[u32; 64]) -> State
     requires { ⌜ (length (now w) ≡ 64) × (now k ≡ constants) ⌝ }
-    ensures { λ r. ⌜ Ran s (now (w .entry)) r (now (w .exit)) ⌝ }
+    ensures { λ r. ⌜ Goes after Scheduled s (now (w .entry)) 0 16 r (now (w .exit)) 64 64 ⌝ }
 {
     let mut v = s;
     let mut t = 0;
-    while t < 8 {
-        v = eight_at(v, w, k, 8 * t);
-        lengthen(w, 8 * t + 16);
+    while t < 12 {
+        v = four(v, w, k, 4 * t);
         t += 1;
     }
-    v
+    let mut u = v;
+    let mut i = 12;
+    while i < 16 {
+        u = last_four(u, w, k, 4 * i);
+        i += 1;
+    }
+    u
 }
 
 fn add_state(v: State, s: State) -> State

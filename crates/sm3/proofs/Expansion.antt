@@ -4,21 +4,21 @@ use mathlib.Core.Bool.{Bool, true, false}
 use mathlib.Core.Logic.{_⊎_, inl, inr, ⊎-elim}
 use mathlib.Core.List.{List, _++_}
 use Prim.Native.Nat.{ℕ, _+_, _-_, _<_, _≤_}
-use native.Mathlib.Nat.{add-suc}
 use native.Mathlib.Numerals.{add-one}
 use native.Mathlib.Omega.{arith}
 use lib.Bits.{bitXor}
 use lib.Dec.{ltb}
-use lib.ListN.{length, getD, set, length-append, List·getD-append}
+use lib.ListN.{length, getD, set, length-set, length-append, List·getD-append}
 use lib.Seq.{getD-append-add, getD-set-same, getD-set-other, ext-getD}
 use borrow.Author.Tests.{lt-ltb, le-ltb, ltb-true, ltb-false}
 use borrow.Author.Count.{below-more}
 use Rattle.words.specs.declared.State.{State}
 use Rattle.words.specs.Words.{rotl}
-use Rattle.words.specs.Known.{Known, course, value, listed}
+use Rattle.words.specs.Known.{course, value, listed}
+use Rattle.words.specs.Going.{Longer}
 use Rattle.words.proofs.Growing.{grow, course-at, listed-length, listed-at}
 use Rattle.sm3.specs.Sm3.{constant, p0, ss1Of, ss2Of, tt1Of, tt2Of, turned, nextWord, wordAfter, word, pair, schedule, round, rounds}
-use Rattle.sm3.specs.Inner.{Paired, early, late, fourFrom}
+use Rattle.sm3.specs.Inner.{Paired, Expanded, early, late, taken, after}
 
 -- ---- 5.3.2, as the document has it
 
@@ -44,27 +44,38 @@ word-later x t l =
     word-is x t ∙ word-late x t l (course (wordAfter x) t) ∙
     rw (word-at x t (t - 16) (omega arith), word-at x t (t - 9) (omega arith), word-at x t (t - 3) (omega arith), word-at x t (t - 13) (omega arith), word-at x t (t - 6) (omega arith))
 
--- the block's own words, and one word more
-pub expanded-first : (w : List ℕ) (x : ℕ → ℕ) → Known w x 16 → Known w (word x) 16
-expanded-first w x k j l = k j l ∙ sym (word-first x j l)
+-- one word more, and one of W'
+module _ (w : List ℕ) (l : length w ≡ 132) (x : ℕ → ℕ) (m : ℕ) where
+  word-more : (n v : ℕ) → 15 < n → n < 68 → Paired w x n m
+      → v ≡ nextWord (getD w (n - 16) 0) (getD w (n - 9) 0) (getD w (n - 3) 0) (getD w (n - 13) 0) (getD w (n - 6) 0) → Paired (set w n v) x (n + 1) m
+  word-more n v g h k e = (
+    grow w (word x) n v (omega (arith, l)) (k .0)
+        (e ∙ rw (k .0 (n - 16) (omega arith), k .0 (n - 9) (omega arith), k .0 (n - 3) (omega arith), k .0 (n - 13) (omega arith), k .0 (n - 6) (omega arith)) (sym (word-later x n g))),
+    (λ j i. getD-set-other w n (j + 68) v 0 (λ (q : j + 68 ≡ n). omega arith) ∙ k .1 j i),
+  )
 
-pub expanded-more : (w : List ℕ) (x : ℕ → ℕ) (u v : ℕ) → 15 < u → u < length w → Known w (word x) u
-    → v ≡ nextWord (getD w (u - 16) 0) (getD w (u - 9) 0) (getD w (u - 3) 0) (getD w (u - 13) 0) (getD w (u - 6) 0) → Known (set w u v) (word x) (u + 1)
-expanded-more w x u v h l k e =
-    grow w (word x) u v l k
-    (e ∙ rw (k (u - 16) (omega arith), k (u - 9) (omega arith), k (u - 3) (omega arith), k (u - 13) (omega arith), k (u - 6) (omega arith)) (sym (word-later x u h)))
+  pub pair-more : (n v : ℕ) → n ≤ 68 → m + 4 < n → Paired w x n m → v ≡ bitXor (getD w m 0) (getD w (m + 4) 0) → Paired (set w (m + 68) v) x n (m + 1)
+  unfolding pair
+  pair-more n v g h k e =
+      let f : v ≡ bitXor (word x m) (word x (m + 4)) = e ∙ rw (k .0 m (omega arith), k .0 (m + 4) h) in (
+        (λ j i. getD-set-other w (m + 68) j v 0 (λ (q : j ≡ m + 68). omega arith) ∙ k .0 j i),
+        below-more (λ (j : ℕ). getD (set w (m + 68) v) (j + 68) 0 ≡ bitXor (word x j) (word x (j + 4))) m
+            (λ j i. getD-set-other w (m + 68) (j + 68) v 0 (λ (q : j + 68 ≡ m + 68). omega arith) ∙ k .1 j i)
+            (getD-set-same w (m + 68) v 0 (omega (arith, l)) ∙ f),
+      )
 
--- one of W' more
-pub paired-more : (w : List ℕ) (x : ℕ → ℕ) (n v : ℕ) → n < 64 → length w ≡ 132 → Paired w x n
-    → v ≡ bitXor (getD w n 0) (getD w (n + 4) 0) → Paired (set w (n + 68) v) x (n + 1)
-unfolding pair
-paired-more w x n v h l k e =
-    let f : v ≡ bitXor (word x n) (word x (n + 4)) = e ∙ rw (k .0 n (omega arith), k .0 (n + 4) (omega arith)) in (
-      (λ j m. getD-set-other w (n + 68) j v 0 (λ (q : j ≡ n + 68). omega arith) ∙ k .0 j m),
-      below-more (λ (j : ℕ). getD (set w (n + 68) v) (j + 68) 0 ≡ bitXor (word x j) (word x (j + 4))) n
-          (λ j m. getD-set-other w (n + 68) (j + 68) v 0 (λ (q : j + 68 ≡ n + 68). omega arith) ∙ k .1 j m)
-          (getD-set-same w (n + 68) v 0 (omega arith) ∙ f),
-    )
+-- both, as the code writes them
+pub expanded-more : (w : List ℕ) → length w ≡ 132 → (n u v : ℕ) → 15 < n → n < 68
+    → u ≡ nextWord (getD w (n - 16) 0) (getD w (n - 9) 0) (getD w (n - 3) 0) (getD w (n - 13) 0) (getD w (n - 6) 0)
+    → v ≡ bitXor (getD w (n - 4) 0) u → Longer Expanded w n (set (set w n u) (n + 64) v)
+expanded-more w l n u v g h e f x k =
+    let a : n - 4 + 4 ≡ n = omega arith in
+    let b : n - 4 + 68 ≡ n + 64 = omega arith in
+    let c : n - 4 + 1 ≡ n + 1 - 4 = omega arith in
+    let o = getD-set-other w n (n - 4) u 0 (λ (q : n - 4 ≡ n). omega arith) in
+    let m = getD-set-same w n u 0 (omega (arith, l)) in
+    rw (b, c) at
+    (pair-more (set w n u) (length-set w n u ∙ l) x (n - 4) (n + 1) v (omega arith) (omega arith) (word-more w l x (n - 4) n u g h k e) (rw (a, o, m) f))
 
 -- all 132
 lt-or-ge : (a b : ℕ) → (a < b) ⊎ (b ≤ a)
@@ -74,7 +85,7 @@ lt-or-ge a b = go (ltb a b) refl
     go true e = inl (ltb-true a b e)
     go false e = inr (ltb-false a b e)
 
-pub whole : (w : List ℕ) (x : ℕ → ℕ) → length w ≡ 132 → Paired w x 64 → w ≡ schedule x
+pub whole : (w : List ℕ) (x : ℕ → ℕ) → length w ≡ 132 → Expanded w x 68 → w ≡ schedule x
 unfolding schedule
 whole w x l k = ext-getD 0 w (a ++ b) (l ∙ sym n) (λ i h. ⊎-elim (low i) (λ g. let e : i - 68 + 68 ≡ i = omega arith in rw e at (high (i - 68) (omega (arith, l)))) (lt-or-ge i 68))
   where
@@ -102,41 +113,24 @@ pub turned-by : (s : State) (f g k w v ss1 tt1 tt2 p : ℕ)
 unfolding turned
 turned-by s f g k w v ss1 tt1 tt2 p i j l m = rw (m, l, j, i)
 
--- ---- four rounds more
+-- ---- the two kinds of rounds
 
 round-early : (s : State) (j w v : ℕ) → j < 16 → round s j w v ≡ early s (constant j) w v
 unfolding round early
 round-early s j w v h = rw (lt-ltb j 16 h)
 
-round-late : (s : State) (j w v : ℕ) → 16 ≤ j → round s j w v ≡ late s (constant j) w v
+round-late : (s : State) (j w v : ℕ) → 15 < j → round s j w v ≡ late s (constant j) w v
 unfolding round late
 round-late s j w v h = rw (le-ltb j 16 h)
 
-rounds-four : (x : ℕ → ℕ) (s : State) (t : ℕ) → rounds (word x) (pair x) s (t + 4) ≡
-    round (round (round (round (rounds (word x) (pair x) s t) t (word x t) (pair x t)) (t + 1) (word x (t + 1)) (pair x (t + 1))) (t + 2) (word x (t + 2)) (pair x (t + 2))) (t + 3) (word x (t + 3)) (pair x (t + 3))
-unfolding rounds
-rounds-four x s t = rw (add-suc t 3, add-suc t 2, add-suc t 1, add-one t)
+-- ---- a round more, where w has its words
+module _ (k w : List ℕ) (n t : ℕ) (v r : State) (c : k ≡ listed constant 64) (h : t < 64) (g : t + 4 < n) (x : ℕ → ℕ) (s : State) (e : v ≡ after x s t) (p : Expanded w x n) where
+  by-kind : (q : State → ℕ → ℕ → ℕ → State) → ((a b : ℕ) → round (after x s t) t a b ≡ q (after x s t) (constant t) a b) → r ≡ taken q k w v t → r ≡ after x s (t + 1)
+  unfolding rounds
+  by-kind q d f = f ∙ rw (c, listed-at constant 64 t h, p .0 t (omega arith), p .1 t (omega arith), e, add-one t) (sym (d (word x t) (pair x t)))
 
-module _ (w : List ℕ) (x : ℕ → ℕ) (k : Paired w x 64) (r : State → ℕ → ℕ → ℕ → State) where
-  -- a round of one kind with what stands in the lists
-  one : (j : ℕ) → j < 64 → ((q : State) (a b : ℕ) → round q j a b ≡ r q (constant j) a b)
-      → (i : ℕ) → i ≡ j + 68 → (q : State) → r q (getD (listed constant 64) j 0) (getD w j 0) (getD w i 0) ≡ round q j (word x j) (pair x j)
-  one j h e i f q = rw (f, listed-at constant 64 j h, k .0 j (omega arith), k .1 j h) (sym (e q (word x j) (pair x j)))
+  pub early-more : t < 16 → r ≡ taken early k w v t → r ≡ after x s (t + 1)
+  early-more i = by-kind early (λ a b. round-early (after x s t) t a b i)
 
-  four-more : (s : State) (t : ℕ) → t < 61 → ((j : ℕ) → t ≤ j → j < t + 4 → (q : State) (a b : ℕ) → round q j a b ≡ r q (constant j) a b)
-      → fourFrom r (listed constant 64) w (rounds (word x) (pair x) s t) t ≡ rounds (word x) (pair x) s (t + 4)
-  four-more s t h e =
-      rw (
-        rounds-four x s t,
-        one t (omega arith) (e t (omega arith) (omega arith)) (t + 68) refl (rounds (word x) (pair x) s t),
-        one (t + 1) (omega arith) (e (t + 1) (omega arith) (omega arith)) (t + 69) (omega arith),
-        one (t + 2) (omega arith) (e (t + 2) (omega arith) (omega arith)) (t + 70) (omega arith),
-        one (t + 3) (omega arith) (e (t + 3) (omega arith) (omega arith)) (t + 71) (omega arith),
-      )
-
-module _ (w : List ℕ) (x : ℕ → ℕ) (s : State) (t : ℕ) where
-  pub early-more : t < 13 → Paired w x 64 → fourFrom early (listed constant 64) w (rounds (word x) (pair x) s t) t ≡ rounds (word x) (pair x) s (t + 4)
-  early-more h k = four-more w x k early s t (omega arith) (λ j g l q a b. round-early q j a b (omega arith))
-
-  pub late-more : 16 ≤ t → t < 61 → Paired w x 64 → fourFrom late (listed constant 64) w (rounds (word x) (pair x) s t) t ≡ rounds (word x) (pair x) s (t + 4)
-  late-more g h k = four-more w x k late s t h (λ j l m q a b. round-late q j a b (omega arith))
+  pub late-more : 15 < t → r ≡ taken late k w v t → r ≡ after x s (t + 1)
+  late-more i = by-kind late (λ a b. round-late (after x s t) t a b i)

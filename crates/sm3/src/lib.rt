@@ -4,12 +4,13 @@ ghost use Prim.Native.Nat.{_+_, _*_, _<_, _≤_};
 ghost use lib.ListN.{length};
 ghost use Rattle.words.specs.Words.{rotl, wordFrom};
 ghost use Rattle.words.specs.Known.{listed};
+ghost use Rattle.words.specs.Going.{Longer, Goes};
 ghost use Rattle.words.specs.Answers.{stepping, stepAnswer, stepSchedule, valueAfter, scheduleAfter};
 ghost use Rattle.words.specs.Claims.{BlockIsTaken, BlockAtIsTaken};
 ghost use Rattle.sm3.specs.Sm3.{constant, parity as parityOf, majority, choose, p0 as p0Of, p1 as p1Of, nextWord, ss1Of, ss2Of, tt1Of, tt2Of};
 ghost use Rattle.sm3.specs.Sm3.{turned, xorState, compress as compressOf, schedule, initial as initialOf};
 ghost use Rattle.sm3.specs.Claims.{BySixteenWords, ExampleExpands, ExampleHashes};
-ghost use Rattle.sm3.specs.Inner.{early as earlyOf, late as lateOf, fourWith, fourFrom, Expands, Pairs, Ran};
+ghost use Rattle.sm3.specs.Inner.{early as earlyOf, late as lateOf, taken, after, Expanded, Pairs};
 use words::State;
 use words::Stepped;
 use words::add;
@@ -179,138 +180,113 @@ fn late(s: State, k: u32, w: u32, v: u32) -> State
     turn(s, maj(s.a, s.b, s.c), ch(s.e, s.f, s.g), k, w, v)
 }
 
-fn early_four(
-    s: State,
-    k0: u32,
-    w0: u32,
-    v0: u32,
-    k1: u32,
-    w1: u32,
-    v1: u32,
-    k2: u32,
-    w2: u32,
-    v2: u32,
-    k3: u32,
-    w3: u32,
-    v3: u32,
-) -> State
-    ensures { λ r. ⌜ r ≡ fourWith earlyOf s k0 w0 v0 k1 w1 v1 k2 w2 v2 k3 w3 v3 ⌝ }
-{
-    let s1 = early(s, k0, w0, v0);
-    let s2 = early(s1, k1, w1, v1);
-    let s3 = early(s2, k2, w2, v2);
-    early(s3, k3, w3, v3)
-}
-
-fn late_four(
-    s: State,
-    k0: u32,
-    w0: u32,
-    v0: u32,
-    k1: u32,
-    w1: u32,
-    v1: u32,
-    k2: u32,
-    w2: u32,
-    v2: u32,
-    k3: u32,
-    w3: u32,
-    v3: u32,
-) -> State
-    ensures { λ r. ⌜ r ≡ fourWith lateOf s k0 w0 v0 k1 w1 v1 k2 w2 v2 k3 w3 v3 ⌝ }
-{
-    let s1 = late(s, k0, w0, v0);
-    let s2 = late(s1, k1, w1, v1);
-    let s3 = late(s2, k2, w2, v2);
-    late(s3, k3, w3, v3)
-}
-
-// The four rounds from t on, below 16. The table is lent: an index into the constant itself would build the table anew at each read.
+// Round t, below 16. The table is lent: an index into the constant itself would build the table anew at each read.
 fn early_at(s: State, w: &[u32], k: &[u32; 64], t: usize) -> State
-    requires { ⌜ (t < 61) × (length (now w) ≡ 132) ⌝ }
-    ensures { λ r. ⌜ r ≡ fourFrom earlyOf (now (k .entry)) (now (w .entry)) s t ⌝ }
+    requires { ⌜ (t < 64) × (length (now w) ≡ 132) ⌝ }
+    ensures { λ r. ⌜ r ≡ taken earlyOf (now (k .entry)) (now (w .entry)) s t ⌝ }
 {
-    early_four(
-        s,
-        k[t],
-        w[t],
-        w[t + 68],
-        k[t + 1],
-        w[t + 1],
-        w[t + 69],
-        k[t + 2],
-        w[t + 2],
-        w[t + 70],
-        k[t + 3],
-        w[t + 3],
-        w[t + 71],
-    )
+    early(s, k[t], w[t], w[t + 68])
 }
 
 // The same from 16 on.
 fn late_at(s: State, w: &[u32], k: &[u32; 64], t: usize) -> State
-    requires { ⌜ (t < 61) × (length (now w) ≡ 132) ⌝ }
-    ensures { λ r. ⌜ r ≡ fourFrom lateOf (now (k .entry)) (now (w .entry)) s t ⌝ }
+    requires { ⌜ (t < 64) × (length (now w) ≡ 132) ⌝ }
+    ensures { λ r. ⌜ r ≡ taken lateOf (now (k .entry)) (now (w .entry)) s t ⌝ }
 {
-    late_four(
-        s,
-        k[t],
-        w[t],
-        w[t + 68],
-        k[t + 1],
-        w[t + 1],
-        w[t + 69],
-        k[t + 2],
-        w[t + 2],
-        w[t + 70],
-        k[t + 3],
-        w[t + 3],
-        w[t + 71],
-    )
+    late(s, k[t], w[t], w[t + 68])
 }
 
-// W16 to W67 (5.3.2).
-fn expand(w: &mut [u32])
-    requires { ⌜ length (now w) ≡ 132 ⌝ }
-    ensures { λ _. ⌜ Expands (now (w .entry)) (now (w .exit)) ⌝ }
-{
-    let mut j = 16;
-    while j < 68 {
-        w[j] = next(w[j - 16], w[j - 9], w[j - 3], w[j - 13], w[j - 6]);
-        j += 1;
-    }
-}
-
-// W'0 to W'63 (5.3.2).
+// W'0 to W'11, which are of the block's own words (5.3.2).
 fn pair_up(w: &mut [u32])
     requires { ⌜ length (now w) ≡ 132 ⌝ }
     ensures { λ _. ⌜ Pairs (now (w .entry)) (now (w .exit)) ⌝ }
 {
     let mut j = 0;
-    while j < 64 {
+    while j < 12 {
         w[j + 68] = w[j] ^ w[j + 4];
         j += 1;
     }
 }
 
+// Wn, and then W'(n - 4) (5.3.2).
+fn expand(w: &mut [u32], n: usize)
+    requires { ⌜ (15 < n) × (n < 68) × (length (now w) ≡ 132) ⌝ }
+    ensures { λ _. ⌜ Longer Expanded (now (w .entry)) n (now (w .exit)) ⌝ }
+{
+    let x = next(w[n - 16], w[n - 9], w[n - 3], w[n - 13], w[n - 6]);
+    let y = w[n - 4] ^ x;
+    w[n] = x;
+    w[n + 64] = y;
+}
+
+// Four rounds below 16, each with a word of later rounds: the processor makes the word while the round waits for itself.
+fn early_four(s: State, w: &mut [u32], k: &[u32; 64], t: usize) -> State
+    requires { ⌜ (t < 13) × (length (now w) ≡ 132) × (now k ≡ listed constant 64) ⌝ }
+    ensures { λ r. ⌜ Goes after Expanded s (now (w .entry)) t (t + 16) r (now (w .exit)) (t + 4) (t + 20) ⌝ }
+{
+    let mut v = s;
+    let mut j = 0;
+    while j < 4 {
+        v = early_at(v, w, k, t + j);
+        expand(w, t + j + 16);
+        j += 1;
+    }
+    v
+}
+
+// The same from 16 on, as long as words are to be made.
+fn late_four(s: State, w: &mut [u32], k: &[u32; 64], t: usize) -> State
+    requires { ⌜ (15 < t) × (t < 49) × (length (now w) ≡ 132) × (now k ≡ listed constant 64) ⌝ }
+    ensures { λ r. ⌜ Goes after Expanded s (now (w .entry)) t (t + 16) r (now (w .exit)) (t + 4) (t + 20) ⌝ }
+{
+    let mut v = s;
+    let mut j = 0;
+    while j < 4 {
+        v = late_at(v, w, k, t + j);
+        expand(w, t + j + 16);
+        j += 1;
+    }
+    v
+}
+
+// Four of the last rounds.
+fn last_four(s: State, w: &[u32], k: &[u32; 64], t: usize) -> State
+    requires { ⌜ (15 < t) × (t < 61) × (length (now w) ≡ 132) × (now k ≡ listed constant 64) ⌝ }
+    ensures { λ r. ⌜ Goes after Expanded s (now (w .entry)) t 68 r (now (w .entry)) (t + 4) 68 ⌝ }
+{
+    let mut v = s;
+    let mut j = 0;
+    while j < 4 {
+        v = late_at(v, w, k, t + j);
+        j += 1;
+    }
+    v
+}
+
 // The 64 rounds, four at a time.
-fn run(s: State, w: &[u32], k: &[u32; 64]) -> State
+fn run(s: State, w: &mut [u32], k: &[u32; 64]) -> State
     requires { ⌜ (length (now w) ≡ 132) × (now k ≡ listed constant 64) ⌝ }
-    ensures { λ r. ⌜ Ran s (now (w .entry)) r ⌝ }
+    ensures { λ r. ⌜ Goes after Expanded s (now (w .entry)) 0 16 r (now (w .exit)) 64 68 ⌝ }
 {
     let mut v = s;
     let mut t = 0;
     while t < 4 {
-        v = early_at(v, w, k, 4 * t);
+        v = early_four(v, w, k, 4 * t);
         t += 1;
     }
     let mut u = v;
     let mut i = 4;
-    while i < 16 {
-        u = late_at(u, w, k, 4 * i);
+    while i < 13 {
+        u = late_four(u, w, k, 4 * i);
         i += 1;
     }
-    u
+    let mut r = u;
+    let mut j = 13;
+    while j < 16 {
+        r = last_four(r, w, k, 4 * j);
+        j += 1;
+    }
+    r
 }
 
 fn xor_state(v: State, s: State) -> State
@@ -335,7 +311,6 @@ fn compress(s: State, m: &[u8], p: usize, w: &mut [u32]) -> State
     ensures { λ _. ⌜ now (w .exit) ≡ schedule (wordFrom (now (m .entry)) p) ⌝ }
 {
     load(m, p, w);
-    expand(w);
     pair_up(w);
     let v = run(s, w, &K);
     xor_state(v, s)

@@ -2,5 +2,6 @@
 -- words, what a block step answers and leaves, and what is claimed of it.
 pub mod Words
 pub mod Known
+pub mod Going
 pub mod Answers
 pub mod Claims
