@@ -12,7 +12,7 @@ use Rattle.words.specs.Known.{Known, course, value}
 use Rattle.words.specs.Going.{Longer}
 use Rattle.words.proofs.Growing.{grow, course-length, course-at}
 use Rattle.sha256.specs.Sha256.{constants, nextWord, wordAfter, schedule, word, rounds, round}
-use Rattle.sha256.specs.Inner.{Scheduled, taken, after}
+use Rattle.sha256.specs.Inner.{Scheduled, roundAt, roundsOver}
 
 -- ---- the schedule as a list, and word by word
 
@@ -54,7 +54,7 @@ scheduled-more w u v h l e x k =
     (e ∙ rw (k (u - 2) (omega arith), k (u - 7) (omega arith), k (u - 15) (omega arith), k (u - 16) (omega arith)) (sym (word-later x u h)))
 
 -- ---- a round more, where w has its word
-pub round-more : (k w : List ℕ) (n t : ℕ) (v r : State) → r ≡ taken k w v t → k ≡ constants → t < n → (x : ℕ → ℕ) (s : State) → v ≡ after x s t → Scheduled w x n
-    → r ≡ after x s (t + 1)
+pub round-more : (k w : List ℕ) (n t : ℕ) (v r : State) → r ≡ roundAt k w v t → k ≡ constants → t < n → (x : ℕ → ℕ) (s : State) → v ≡ roundsOver x s t → Scheduled w x n
+    → r ≡ roundsOver x s (t + 1)
 unfolding rounds
 round-more k w n t v r f c h x s e g = f ∙ rw (c, add-one t, e, g t h)

@@ -11,9 +11,9 @@ abbrev pub Scheduled : List ℕ → (ℕ → ℕ) → ℕ → Type 0
 Scheduled w x n = Known w (word x) n
 
 -- a round with what stands at t
-abbrev pub taken : List ℕ → List ℕ → State → ℕ → State
-taken k w s t = round s (getD k t 0) (getD w t 0)
+abbrev pub roundAt : List ℕ → List ℕ → State → ℕ → State
+roundAt k w s t = round s (getD k t 0) (getD w t 0)
 
 -- the hash value after t rounds over a block
-abbrev pub after : (ℕ → ℕ) → State → ℕ → State
-after x s t = rounds (word x) s t
+abbrev pub roundsOver : (ℕ → ℕ) → State → ℕ → State
+roundsOver x s t = rounds (word x) s t

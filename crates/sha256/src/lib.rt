@@ -10,7 +10,7 @@ ghost use Rattle.words.specs.Claims.{BlockIsTaken, BlockAtIsTaken};
 ghost use Rattle.sha256.specs.Sha256.{choose, majority, bigSigma0, bigSigma1, smallSigma0, smallSigma1, constants, nextWord, t1Of, t2Of};
 ghost use Rattle.sha256.specs.Sha256.{round as roundOf, addState, compress as compressOf, schedule, initial as initialOf};
 ghost use Rattle.sha256.specs.Claims.{BySixteenWords, ExampleHashes};
-ghost use Rattle.sha256.specs.Inner.{Scheduled, taken, after};
+ghost use Rattle.sha256.specs.Inner.{Scheduled, roundAt, roundsOver};
 use words::State;
 use words::Stepped;
 use words::add;
@@ -153,7 +153,7 @@ fn round(s: State, k: u32, w: u32) -> State
 // Round t. The table is lent: an index into the constant itself would build the table anew at each read.
 fn round_at(s: State, w: &[u32], k: &[u32; 64], t: usize) -> State
     requires { ⌜ (t < 64) × (length (now w) ≡ 64) ⌝ }
-    ensures { λ r. ⌜ r ≡ taken (now (k .entry)) (now (w .entry)) s t ⌝ }
+    ensures { λ r. ⌜ r ≡ roundAt (now (k .entry)) (now (w .entry)) s t ⌝ }
 {
     round(s, k[t], w[t])
 }
@@ -175,7 +175,7 @@ fn lengthen(w: &mut [u32], n: usize)
 // Four rounds, each with a word of later rounds: the processor makes the word while the round waits for itself.
 fn four(s: State, w: &mut [u32], k: &[u32; 64], t: usize) -> State
     requires { ⌜ (t < 45) × (length (now w) ≡ 64) × (now k ≡ constants) ⌝ }
-    ensures { λ r. ⌜ Goes after Scheduled s (now (w .entry)) t (t + 16) r (now (w .exit)) (t + 4) (t + 20) ⌝ }
+    ensures { λ r. ⌜ Goes roundsOver Scheduled s (now (w .entry)) t (t + 16) r (now (w .exit)) (t + 4) (t + 20) ⌝ }
 {
     let mut v = s;
     let mut j = 0;
@@ -190,7 +190,7 @@ fn four(s: State, w: &mut [u32], k: &[u32; 64], t: usize) -> State
 // Four of the last rounds.
 fn last_four(s: State, w: &[u32], k: &[u32; 64], t: usize) -> State
     requires { ⌜ (t < 61) × (length (now w) ≡ 64) × (now k ≡ constants) ⌝ }
-    ensures { λ r. ⌜ Goes after Scheduled s (now (w .entry)) t 64 r (now (w .entry)) (t + 4) 64 ⌝ }
+    ensures { λ r. ⌜ Goes roundsOver Scheduled s (now (w .entry)) t 64 r (now (w .entry)) (t + 4) 64 ⌝ }
 {
     let mut v = s;
     let mut j = 0;
@@ -204,7 +204,7 @@ fn last_four(s: State, w: &[u32], k: &[u32; 64], t: usize) -> State
 // The 64 rounds, four at a time.
 fn run(s: State, w: &mut [u32], k: &[u32; 64]) -> State
     requires { ⌜ (length (now w) ≡ 64) × (now k ≡ constants) ⌝ }
-    ensures { λ r. ⌜ Goes after Scheduled s (now (w .entry)) 0 16 r (now (w .exit)) 64 64 ⌝ }
+    ensures { λ r. ⌜ Goes roundsOver Scheduled s (now (w .entry)) 0 16 r (now (w .exit)) 64 64 ⌝ }
 {
     let mut v = s;
     let mut t = 0;

@@ -18,7 +18,7 @@ use Rattle.words.specs.Known.{course, value, listed}
 use Rattle.words.specs.Going.{Longer}
 use Rattle.words.proofs.Growing.{grow, course-at, listed-length, listed-at}
 use Rattle.sm3.specs.Sm3.{constant, p0, ss1Of, ss2Of, tt1Of, tt2Of, turned, nextWord, wordAfter, word, pair, schedule, round, rounds}
-use Rattle.sm3.specs.Inner.{Paired, Expanded, early, late, taken, after}
+use Rattle.sm3.specs.Inner.{Paired, Expanded, early, late, roundAt, roundsOver}
 
 -- ---- 5.3.2, as the document has it
 
@@ -124,13 +124,13 @@ unfolding round late
 round-late s j w v h = rw (le-ltb j 16 h)
 
 -- ---- a round more, where w has its words
-module _ (k w : List ℕ) (n t : ℕ) (v r : State) (c : k ≡ listed constant 64) (h : t < 64) (g : t + 4 < n) (x : ℕ → ℕ) (s : State) (e : v ≡ after x s t) (p : Expanded w x n) where
-  by-kind : (q : State → ℕ → ℕ → ℕ → State) → ((a b : ℕ) → round (after x s t) t a b ≡ q (after x s t) (constant t) a b) → r ≡ taken q k w v t → r ≡ after x s (t + 1)
+module _ (k w : List ℕ) (n t : ℕ) (v r : State) (c : k ≡ listed constant 64) (h : t < 64) (g : t + 4 < n) (x : ℕ → ℕ) (s : State) (e : v ≡ roundsOver x s t) (p : Expanded w x n) where
+  by-kind : (q : State → ℕ → ℕ → ℕ → State) → ((a b : ℕ) → round (roundsOver x s t) t a b ≡ q (roundsOver x s t) (constant t) a b) → r ≡ roundAt q k w v t → r ≡ roundsOver x s (t + 1)
   unfolding rounds
   by-kind q d f = f ∙ rw (c, listed-at constant 64 t h, p .0 t (omega arith), p .1 t (omega arith), e, add-one t) (sym (d (word x t) (pair x t)))
 
-  pub early-more : t < 16 → r ≡ taken early k w v t → r ≡ after x s (t + 1)
-  early-more i = by-kind early (λ a b. round-early (after x s t) t a b i)
+  pub early-more : t < 16 → r ≡ roundAt early k w v t → r ≡ roundsOver x s (t + 1)
+  early-more i = by-kind early (λ a b. round-early (roundsOver x s t) t a b i)
 
-  pub late-more : 15 < t → r ≡ taken late k w v t → r ≡ after x s (t + 1)
-  late-more i = by-kind late (λ a b. round-late (after x s t) t a b i)
+  pub late-more : 15 < t → r ≡ roundAt late k w v t → r ≡ roundsOver x s (t + 1)
+  late-more i = by-kind late (λ a b. round-late (roundsOver x s t) t a b i)

@@ -27,9 +27,9 @@ unfoldable pub late : State → ℕ → ℕ → ℕ → State
 late s k w v = turned s (majority (s .a) (s .b) (s .c)) (choose (s .e) (s .f) (s .g)) k w v
 
 -- a round of one kind with what stands at j
-abbrev pub taken : (State → ℕ → ℕ → ℕ → State) → List ℕ → List ℕ → State → ℕ → State
-taken r k w s j = r s (getD k j 0) (getD w j 0) (getD w (j + 68) 0)
+abbrev pub roundAt : (State → ℕ → ℕ → ℕ → State) → List ℕ → List ℕ → State → ℕ → State
+roundAt r k w s j = r s (getD k j 0) (getD w j 0) (getD w (j + 68) 0)
 
 -- the hash value after t rounds over a block
-abbrev pub after : (ℕ → ℕ) → State → ℕ → State
-after x s t = rounds (word x) (pair x) s t
+abbrev pub roundsOver : (ℕ → ℕ) → State → ℕ → State
+roundsOver x s t = rounds (word x) (pair x) s t

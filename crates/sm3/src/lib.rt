@@ -10,7 +10,7 @@ ghost use Rattle.words.specs.Claims.{BlockIsTaken, BlockAtIsTaken};
 ghost use Rattle.sm3.specs.Sm3.{constant, parity as parityOf, majority, choose, p0 as p0Of, p1 as p1Of, nextWord, ss1Of, ss2Of, tt1Of, tt2Of};
 ghost use Rattle.sm3.specs.Sm3.{turned, xorState, compress as compressOf, schedule, initial as initialOf};
 ghost use Rattle.sm3.specs.Claims.{BySixteenWords, ExampleExpands, ExampleHashes};
-ghost use Rattle.sm3.specs.Inner.{early as earlyOf, late as lateOf, taken, after, Expanded, Pairs};
+ghost use Rattle.sm3.specs.Inner.{early as earlyOf, late as lateOf, roundAt, roundsOver, Expanded, Pairs};
 use words::State;
 use words::Stepped;
 use words::add;
@@ -183,7 +183,7 @@ fn late(s: State, k: u32, w: u32, v: u32) -> State
 // Round t, below 16. The table is lent: an index into the constant itself would build the table anew at each read.
 fn early_at(s: State, w: &[u32], k: &[u32; 64], t: usize) -> State
     requires { ⌜ (t < 64) × (length (now w) ≡ 132) ⌝ }
-    ensures { λ r. ⌜ r ≡ taken earlyOf (now (k .entry)) (now (w .entry)) s t ⌝ }
+    ensures { λ r. ⌜ r ≡ roundAt earlyOf (now (k .entry)) (now (w .entry)) s t ⌝ }
 {
     early(s, k[t], w[t], w[t + 68])
 }
@@ -191,7 +191,7 @@ fn early_at(s: State, w: &[u32], k: &[u32; 64], t: usize) -> State
 // The same from 16 on.
 fn late_at(s: State, w: &[u32], k: &[u32; 64], t: usize) -> State
     requires { ⌜ (t < 64) × (length (now w) ≡ 132) ⌝ }
-    ensures { λ r. ⌜ r ≡ taken lateOf (now (k .entry)) (now (w .entry)) s t ⌝ }
+    ensures { λ r. ⌜ r ≡ roundAt lateOf (now (k .entry)) (now (w .entry)) s t ⌝ }
 {
     late(s, k[t], w[t], w[t + 68])
 }
@@ -222,7 +222,7 @@ fn expand(w: &mut [u32], n: usize)
 // Four rounds below 16, each with a word of later rounds: the processor makes the word while the round waits for itself.
 fn early_four(s: State, w: &mut [u32], k: &[u32; 64], t: usize) -> State
     requires { ⌜ (t < 13) × (length (now w) ≡ 132) × (now k ≡ listed constant 64) ⌝ }
-    ensures { λ r. ⌜ Goes after Expanded s (now (w .entry)) t (t + 16) r (now (w .exit)) (t + 4) (t + 20) ⌝ }
+    ensures { λ r. ⌜ Goes roundsOver Expanded s (now (w .entry)) t (t + 16) r (now (w .exit)) (t + 4) (t + 20) ⌝ }
 {
     let mut v = s;
     let mut j = 0;
@@ -237,7 +237,7 @@ fn early_four(s: State, w: &mut [u32], k: &[u32; 64], t: usize) -> State
 // The same from 16 on, as long as words are to be made.
 fn late_four(s: State, w: &mut [u32], k: &[u32; 64], t: usize) -> State
     requires { ⌜ (15 < t) × (t < 49) × (length (now w) ≡ 132) × (now k ≡ listed constant 64) ⌝ }
-    ensures { λ r. ⌜ Goes after Expanded s (now (w .entry)) t (t + 16) r (now (w .exit)) (t + 4) (t + 20) ⌝ }
+    ensures { λ r. ⌜ Goes roundsOver Expanded s (now (w .entry)) t (t + 16) r (now (w .exit)) (t + 4) (t + 20) ⌝ }
 {
     let mut v = s;
     let mut j = 0;
@@ -252,7 +252,7 @@ fn late_four(s: State, w: &mut [u32], k: &[u32; 64], t: usize) -> State
 // Four of the last rounds.
 fn last_four(s: State, w: &[u32], k: &[u32; 64], t: usize) -> State
     requires { ⌜ (15 < t) × (t < 61) × (length (now w) ≡ 132) × (now k ≡ listed constant 64) ⌝ }
-    ensures { λ r. ⌜ Goes after Expanded s (now (w .entry)) t 68 r (now (w .entry)) (t + 4) 68 ⌝ }
+    ensures { λ r. ⌜ Goes roundsOver Expanded s (now (w .entry)) t 68 r (now (w .entry)) (t + 4) 68 ⌝ }
 {
     let mut v = s;
     let mut j = 0;
@@ -266,7 +266,7 @@ fn last_four(s: State, w: &[u32], k: &[u32; 64], t: usize) -> State
 // The 64 rounds, four at a time.
 fn run(s: State, w: &mut [u32], k: &[u32; 64]) -> State
     requires { ⌜ (length (now w) ≡ 132) × (now k ≡ listed constant 64) ⌝ }
-    ensures { λ r. ⌜ Goes after Expanded s (now (w .entry)) 0 16 r (now (w .exit)) 64 68 ⌝ }
+    ensures { λ r. ⌜ Goes roundsOver Expanded s (now (w .entry)) 0 16 r (now (w .exit)) 64 68 ⌝ }
 {
     let mut v = s;
     let mut t = 0;

@@ -5,16 +5,10 @@ use mathlib.Core.List.{List}
 use Prim.Native.Nat.{ℕ, _+_}
 use Rattle.words.specs.declared.State.{State}
 
-abbrev pub After : Type 0
-After = (ℕ → ℕ) → State → ℕ → State
-
-abbrev pub Has : Type 1
-Has = List ℕ → (ℕ → ℕ) → ℕ → Type 0
-
 -- whatever block w had n words of, w′ has one more of
-abbrev pub Longer : Has → List ℕ → ℕ → List ℕ → Type 0
+abbrev pub Longer : (List ℕ → (ℕ → ℕ) → ℕ → Type 0) → List ℕ → ℕ → List ℕ → Type 0
 Longer E w n w′ = (x : ℕ → ℕ) → E w x n → E w′ x (n + 1)
 
--- whatever block and hash value v was after t rounds of, where w had n words: v′ is after t′, and w′ has n′
-abbrev pub Goes : After → Has → State → List ℕ → ℕ → ℕ → State → List ℕ → ℕ → ℕ → Type 0
+-- whatever the block x and the hash value s before it: where v is after t rounds and w has n words, v′ is after t′ rounds and w′ has n′ words
+abbrev pub Goes : ((ℕ → ℕ) → State → ℕ → State) → (List ℕ → (ℕ → ℕ) → ℕ → Type 0) → State → List ℕ → ℕ → ℕ → State → List ℕ → ℕ → ℕ → Type 0
 Goes R E v w t n v′ w′ t′ n′ = (x : ℕ → ℕ) (s : State) → v ≡ R x s t → E w x n → (v′ ≡ R x s t′) × E w′ x n′

@@ -5,13 +5,13 @@ use native.Mathlib.Omega.{arith}
 use lib.ListN.{length}
 use Rattle.words.specs.Going.{Goes}
 use Rattle.sha256.specs.Sha256.{constants}
-use Rattle.sha256.specs.Inner.{Scheduled, after}
+use Rattle.sha256.specs.Inner.{Scheduled, roundsOver}
 use Rattle.sha256.proofs.Schedule.{round-more}
 use Rattle.sha256.proofs.four.Statement.{statement}
 use Rattle.sha256.proofs.four.Tie as tie
 
 abbrev Inv-loop : tie.InvT-loop
-Inv-loop w₀ k t v₀ j₀ w v j = (j ≤ 4) × (t < 45) × (length w ≡ 64) × (k ≡ constants) × Goes after Scheduled v₀ w₀ t (t + 16) v w (t + j) (t + j + 16)
+Inv-loop w₀ k t v₀ j₀ w v j = (j ≤ 4) × (t < 45) × (length w ≡ 64) × (k ≡ constants) × Goes roundsOver Scheduled v₀ w₀ t (t + 16) v w (t + j) (t + j + 16)
 
 abbrev μ-loop : tie.MeasureT-loop
 μ-loop w₀ k t v₀ j₀ w v j = 4 - j

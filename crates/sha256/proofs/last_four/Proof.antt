@@ -6,13 +6,13 @@ use native.Mathlib.Omega.{arith}
 use lib.ListN.{length}
 use Rattle.words.specs.Going.{Goes}
 use Rattle.sha256.specs.Sha256.{constants}
-use Rattle.sha256.specs.Inner.{Scheduled, after}
+use Rattle.sha256.specs.Inner.{Scheduled, roundsOver}
 use Rattle.sha256.proofs.Schedule.{round-more}
 use Rattle.sha256.proofs.last_four.Statement.{statement}
 use Rattle.sha256.proofs.last_four.Tie as tie
 
 abbrev Inv-loop : tie.InvT-loop
-Inv-loop w k t v₀ j₀ v j = (j ≤ 4) × (t < 61) × (length w ≡ 64) × (k ≡ constants) × Goes after Scheduled v₀ w t 64 v w (t + j) 64
+Inv-loop w k t v₀ j₀ v j = (j ≤ 4) × (t < 61) × (length w ≡ 64) × (k ≡ constants) × Goes roundsOver Scheduled v₀ w t 64 v w (t + j) 64
 
 abbrev μ-loop : tie.MeasureT-loop
 μ-loop w k t v₀ j₀ v j = 4 - j

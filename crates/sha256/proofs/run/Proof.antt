@@ -5,18 +5,18 @@ use native.Mathlib.Omega.{arith}
 use lib.ListN.{length}
 use Rattle.words.specs.Going.{Goes}
 use Rattle.sha256.specs.Sha256.{constants}
-use Rattle.sha256.specs.Inner.{Scheduled, after}
+use Rattle.sha256.specs.Inner.{Scheduled, roundsOver}
 use Rattle.sha256.proofs.run.Statement.{statement}
 use Rattle.sha256.proofs.run.Tie as tie
 
 abbrev Inv-loop : tie.InvT-loop
-Inv-loop w₀ k v₀ t₀ w v t = (t ≤ 12) × (length w ≡ 64) × (k ≡ constants) × Goes after Scheduled v₀ w₀ 0 16 v w (4 * t) (4 * t + 16)
+Inv-loop w₀ k v₀ t₀ w v t = (t ≤ 12) × (length w ≡ 64) × (k ≡ constants) × Goes roundsOver Scheduled v₀ w₀ 0 16 v w (4 * t) (4 * t + 16)
 
 abbrev μ-loop : tie.MeasureT-loop
 μ-loop w₀ k v₀ t₀ w v t = 12 - t
 
 abbrev Inv-loop2 : tie.InvT-loop2
-Inv-loop2 w k t u₀ i₀ u i = (i ≤ 16) × (length w ≡ 64) × (k ≡ constants) × Goes after Scheduled u₀ w 48 64 u w (4 * i) 64
+Inv-loop2 w k t u₀ i₀ u i = (i ≤ 16) × (length w ≡ 64) × (k ≡ constants) × Goes roundsOver Scheduled u₀ w 48 64 u w (4 * i) 64
 
 abbrev μ-loop2 : tie.MeasureT-loop2
 μ-loop2 w k t u₀ i₀ u i = 16 - i

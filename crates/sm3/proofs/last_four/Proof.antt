@@ -7,13 +7,13 @@ use lib.ListN.{length}
 use Rattle.words.specs.Known.{listed}
 use Rattle.words.specs.Going.{Goes}
 use Rattle.sm3.specs.Sm3.{constant}
-use Rattle.sm3.specs.Inner.{Expanded, after}
+use Rattle.sm3.specs.Inner.{Expanded, roundsOver}
 use Rattle.sm3.proofs.Expansion.{late-more}
 use Rattle.sm3.proofs.last_four.Statement.{statement}
 use Rattle.sm3.proofs.last_four.Tie as tie
 
 abbrev Inv-loop : tie.InvT-loop
-Inv-loop w k t v₀ j₀ v j = (j ≤ 4) × (15 < t) × (t < 61) × (length w ≡ 132) × (k ≡ listed constant 64) × Goes after Expanded v₀ w t 68 v w (t + j) 68
+Inv-loop w k t v₀ j₀ v j = (j ≤ 4) × (15 < t) × (t < 61) × (length w ≡ 132) × (k ≡ listed constant 64) × Goes roundsOver Expanded v₀ w t 68 v w (t + j) 68
 
 abbrev μ-loop : tie.MeasureT-loop
 μ-loop w k t v₀ j₀ v j = 4 - j

@@ -6,24 +6,24 @@ use lib.ListN.{length}
 use Rattle.words.specs.Known.{listed}
 use Rattle.words.specs.Going.{Goes}
 use Rattle.sm3.specs.Sm3.{constant}
-use Rattle.sm3.specs.Inner.{Expanded, after}
+use Rattle.sm3.specs.Inner.{Expanded, roundsOver}
 use Rattle.sm3.proofs.run.Statement.{statement}
 use Rattle.sm3.proofs.run.Tie as tie
 
 abbrev Inv-loop : tie.InvT-loop
-Inv-loop w₀ k v₀ t₀ w v t = (t ≤ 4) × (length w ≡ 132) × (k ≡ listed constant 64) × Goes after Expanded v₀ w₀ 0 16 v w (4 * t) (4 * t + 16)
+Inv-loop w₀ k v₀ t₀ w v t = (t ≤ 4) × (length w ≡ 132) × (k ≡ listed constant 64) × Goes roundsOver Expanded v₀ w₀ 0 16 v w (4 * t) (4 * t + 16)
 
 abbrev μ-loop : tie.MeasureT-loop
 μ-loop w₀ k v₀ t₀ w v t = 4 - t
 
 abbrev Inv-loop2 : tie.InvT-loop2
-Inv-loop2 w₀ k t u₀ i₀ w u i = (4 ≤ i) × (i ≤ 13) × (length w ≡ 132) × (k ≡ listed constant 64) × Goes after Expanded u₀ w₀ 16 32 u w (4 * i) (4 * i + 16)
+Inv-loop2 w₀ k t u₀ i₀ w u i = (4 ≤ i) × (i ≤ 13) × (length w ≡ 132) × (k ≡ listed constant 64) × Goes roundsOver Expanded u₀ w₀ 16 32 u w (4 * i) (4 * i + 16)
 
 abbrev μ-loop2 : tie.MeasureT-loop2
 μ-loop2 w₀ k t u₀ i₀ w u i = 13 - i
 
 abbrev Inv-loop3 : tie.InvT-loop3
-Inv-loop3 w k t i r₀ j₀ r j = (13 ≤ j) × (j ≤ 16) × (length w ≡ 132) × (k ≡ listed constant 64) × Goes after Expanded r₀ w 52 68 r w (4 * j) 68
+Inv-loop3 w k t i r₀ j₀ r j = (13 ≤ j) × (j ≤ 16) × (length w ≡ 132) × (k ≡ listed constant 64) × Goes roundsOver Expanded r₀ w 52 68 r w (4 * j) 68
 
 abbrev μ-loop3 : tie.MeasureT-loop3
 μ-loop3 w k t i r₀ j₀ r j = 16 - j
