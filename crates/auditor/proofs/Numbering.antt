@@ -11,7 +11,6 @@ use lib.Seq.{take-at}
 use borrow.Author.Tests.{eqb-true}
 use Rattle.octets.specs.Bytes.{over}
 use Rattle.hash.specs.declared.Algorithm.{Algorithm}
-use Rattle.hash.specs.declared.Algorithm.the-variants.{Sha256}
 use Rattle.hash.specs.declared.Named.{Named}
 use Rattle.hash.specs.declared.Named.the-variants.{By, Unknown}
 use Rattle.hash.specs.Algorithm.{algorithmOf, heldBy}
@@ -23,7 +22,7 @@ use Rattle.auditor.specs.Offer.{offerNumber, kept, keptRecord, offeredOv
 use Rattle.auditor.specs.Page.{pageNumber, asked}
 use Rattle.auditor.specs.Heads.{Heads, then}
 use Rattle.auditor.specs.Calls.{Call, offer, ask, Entry, answered, Numbered, under, plain, called, entry, answers, final, AllUnder, callOf, accepted, paperNumber, paperAfter, run, heads}
-use Rattle.hash.proofs.Algorithms.{held-itself, held-another}
+use Rattle.hash.proofs.Algorithms.{held-itself, held-another, some-hash}
 use Rattle.hash.proofs.Promises.{numbers}
 use Rattle.auditor.proofs.Offering.{view-held, view-empty}
 
@@ -206,7 +205,7 @@ free-step r n c calls h i (suc k) e =
 
 pub free-runs : (calls : List (Numbered Call)) (r : Record) → r .held ≡ false → OneHash (answers r calls)
 unfolding answers entry run accepted callOf plain AllBy
-free-runs [] r h = record { alg = Sha256; runs = record { one-run = refl; one-hash = tt } }
+free-runs [] r h = record { alg = some-hash; runs = record { one-run = refl; one-hash = tt } }
 free-runs (under n c ∷ calls) r h = free-step r n c calls h (free-runs calls r h) (called r (under n c) .number) refl
 
 pub holds-nothing : emptyRecord .held ≡ false

@@ -78,3 +78,7 @@ module _ {A : Type 0} (n : ℕ) (refusal : A) (answer : (List ℕ → List ℕ) 
   pub by-unknown : Unknown ≡ algorithmOf n → refusal ≡ byNumber n refusal answer
   unfolding byNumber
   by-unknown e = named-none (algorithmOf n) refusal answer e
+
+-- ---- a hash, where any serves
+pub some-hash : Algorithm
+some-hash = Sha256
