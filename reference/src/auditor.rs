@@ -9,8 +9,6 @@ use crate::verdict::{self, Consistency, Inclusion};
 
 #[derive(Clone, Debug, PartialEq, Eq)]
 pub struct Head {
-    /// The number of the hash by which the first head was accepted.
-    pub algorithm: u64,
     pub log_id: Vec<u8>,
     pub timestamp: u64,
     pub size: u64,
@@ -20,8 +18,35 @@ pub struct Head {
 /// A log id has 2 to 127 bytes.
 pub const LONGEST_ID: usize = 127;
 
-/// Empty, or the head that was accepted last.
-pub type Record = Option<Head>;
+/// The head that was accepted last, and the number of the hash by which the first was.
+#[derive(Clone, Debug, PartialEq, Eq)]
+pub struct Held {
+    pub algorithm: u64,
+    pub head: Head,
+}
+
+/// A refused head that is evidence, and the number of its refusal.
+#[derive(Clone, Debug, PartialEq, Eq)]
+pub struct Kept {
+    pub number: u64,
+    pub head: Head,
+}
+
+/// Two places, each empty at first: the second is for the latest refused head that is evidence.
+#[derive(Clone, Debug, PartialEq, Eq)]
+pub struct Record {
+    pub held: Option<Held>,
+    pub kept: Option<Kept>,
+}
+
+impl Record {
+    pub const EMPTY: Record = Record { held: None, kept: None };
+
+    /// The head that is held.
+    pub fn head(&self) -> Option<&Head> {
+        self.held.as_ref().map(|held| &held.head)
+    }
+}
 
 #[derive(Clone, Debug, PartialEq, Eq)]
 pub struct Offer {
@@ -30,6 +55,17 @@ pub struct Offer {
     pub size: u64,
     pub root: Vec<u8>,
     pub path: Vec<u8>,
+}
+
+impl Offer {
+    /// The head that is offered, or 5.
+    fn head(&self) -> Result<Head, u64> {
+        let root = self.root[..].try_into().map_err(|_| 5u64)?;
+        if !(2..=LONGEST_ID).contains(&self.log_id.len()) {
+            return Err(5);
+        }
+        Ok(Head { log_id: self.log_id.clone(), timestamp: self.timestamp, size: self.size, root })
+    }
 }
 
 #[derive(Clone, Debug, PartialEq, Eq)]
@@ -50,36 +86,57 @@ pub fn under(algorithm: u64, calls: Vec<Call>) -> Vec<(u64, Call)> {
     calls.into_iter().map(|call| (algorithm, call)).collect()
 }
 
-/// The hash of a call's number, or 16: where no hash has it, and where the record holds
-/// a head and with it another number.
-fn hash(hashes: Hashes, algorithm: u64, record: &Record) -> Result<HashFunction, u64> {
-    let is_held = record.as_ref().is_none_or(|held| held.algorithm == algorithm);
+/// The hash of a call's number, or 16: where no hash has it, and where a head is held and
+/// with it another number.
+fn hash(hashes: Hashes, algorithm: u64, held: &Option<Held>) -> Result<HashFunction, u64> {
+    let is_held = held.as_ref().is_none_or(|held| held.algorithm == algorithm);
     hashes(algorithm).filter(|_| is_held).ok_or(REFUSED)
+}
+
+/// What an offer does to the record.
+enum Change {
+    Held(Held),
+    Kept(Kept),
+    /// The number of a refusal that leaves all as it was.
+    Nothing(u64),
+}
+
+/// An accepted head takes the first place. A refused one takes the second where it is
+/// evidence: with 8, with 13, or with 12 where the size is the held one and the root another.
+/// It is not asked what stands there.
+fn change(hashes: Hashes, algorithm: u64, held: &Option<Held>, offer: &Offer) -> Change {
+    let number = match judge_offer(hashes, algorithm, held, offer) {
+        Ok(head) => return Change::Held(Held { algorithm, head }),
+        Err(number) => number,
+    };
+    match (number, held, offer.head()) {
+        (8 | 13, _, Ok(head)) => Change::Kept(Kept { number, head }),
+        (12, Some(held), Ok(head)) if head.size == held.head.size && head.root != held.head.root => Change::Kept(Kept { number, head }),
+        _ => Change::Nothing(number),
+    }
 }
 
 /// The number and the record after the offer.
 pub fn offer(hashes: Hashes, algorithm: u64, record: &Record, offer: &Offer) -> (u64, Record) {
-    match judge_offer(hashes, algorithm, record, offer) {
-        Ok(head) => (0, Some(head)),
-        Err(number) => (number, record.clone()),
+    match change(hashes, algorithm, &record.held, offer) {
+        Change::Held(held) => (0, Record { held: Some(held), ..record.clone() }),
+        Change::Kept(kept) => (kept.number, Record { kept: Some(kept), ..record.clone() }),
+        Change::Nothing(number) => (number, record.clone()),
     }
 }
 
 /// 16 before all else; then an empty record checks 5, 10, 6, 7, another 5, 10, 11, 6, 12, 13, 7, 8. One
 /// millisecond has one head: 12 is given for an earlier timestamp, and for an equal
 /// one where size or root is another than the held. So 13 is left for a later one.
-fn judge_offer(hashes_by: Hashes, algorithm: u64, record: &Record, offer: &Offer) -> Result<Head, u64> {
-    let h = hash(hashes_by, algorithm, record)?;
-    let root: Hash = offer.root[..].try_into().map_err(|_| 5u64)?;
-    if !(2..=LONGEST_ID).contains(&offer.log_id.len()) {
-        return Err(5);
-    }
+fn judge_offer(hashes_by: Hashes, algorithm: u64, held: &Option<Held>, offer: &Offer) -> Result<Head, u64> {
+    let h = hash(hashes_by, algorithm, held)?;
+    let head = offer.head()?;
     if hashes(&offer.path).is_none() {
         return Err(10);
     }
     // No size is above the largest.
-    let in_range = offer.size > 0;
-    match record {
+    let in_range = head.size > 0;
+    match held {
         None => {
             if !in_range {
                 return Err(6);
@@ -88,37 +145,39 @@ fn judge_offer(hashes_by: Hashes, algorithm: u64, record: &Record, offer: &Offer
                 return Err(7);
             }
         }
-        Some(held) => {
-            if offer.log_id != held.log_id {
+        Some(Held { head: held, .. }) => {
+            if head.log_id != held.log_id {
                 return Err(11);
             }
-            if !in_range || offer.size < held.size {
+            if !in_range || head.size < held.size {
                 return Err(6);
             }
-            let is_other = offer.size != held.size || root != held.root;
-            if offer.timestamp < held.timestamp || offer.timestamp == held.timestamp && is_other {
+            let is_other = head.size != held.size || head.root != held.root;
+            if head.timestamp < held.timestamp || head.timestamp == held.timestamp && is_other {
                 return Err(12);
             }
-            if offer.size == held.size && root != held.root {
+            if head.size == held.size && head.root != held.root {
                 return Err(13);
             }
-            let step = Consistency { first: held.size, second: offer.size, first_root: &held.root, second_root: &root, path: &offer.path };
+            let step =
+                Consistency { first: held.size, second: head.size, first_root: &held.root, second_root: &head.root, path: &offer.path };
             match verdict::consistency(h, &step) {
                 0 => (),
                 number => return Err(number),
             }
         }
     }
-    Ok(Head { algorithm, log_id: offer.log_id.clone(), timestamp: offer.timestamp, size: offer.size, root })
+    Ok(head)
 }
 
-/// 16, then 14 if the record is empty, 1 if the page is too long, then the inclusion verdict.
+/// 16, then 14 if no head is held, 1 if the page is too long, then the inclusion verdict. No
+/// page call changes the record.
 pub fn page(hashes: Hashes, algorithm: u64, record: &Record, call: &PageCall) -> u64 {
-    let h = match hash(hashes, algorithm, record) {
+    let h = match hash(hashes, algorithm, &record.held) {
         Ok(h) => h,
         Err(number) => return number,
     };
-    let Some(held) = record else { return 14 };
+    let Some(held) = record.head() else { return 14 };
     if call.page.len() > LONGEST_ITEM {
         return 1;
     }
@@ -129,7 +188,7 @@ pub fn page(hashes: Hashes, algorithm: u64, record: &Record, call: &PageCall) ->
 /// A list of calls from the empty record, each with the number of its hash: each call's
 /// number, and the record after it.
 pub fn run(hashes: Hashes, calls: &[(u64, Call)]) -> Vec<(u64, Record)> {
-    let mut record = None;
+    let mut record = Record::EMPTY;
     let mut answers = Vec::new();
     for (algorithm, call) in calls {
         let (number, after) = match call {
@@ -142,7 +201,41 @@ pub fn run(hashes: Hashes, calls: &[(u64, Call)]) -> Vec<(u64, Record)> {
     answers
 }
 
-/// The record as it is kept: any value has an answer, also one that no list of
+/// A log id as it is stored, and how many bytes it has: zeros follow it.
+fn stored_id(log_id: &[u8]) -> ([u8; LONGEST_ID], u64) {
+    let mut id = [0; LONGEST_ID];
+    id[..log_id.len()].copy_from_slice(log_id);
+    (id, log_id.len() as u64)
+}
+
+/// A length above that of `id` is all of it.
+fn read_id(id: &[u8; LONGEST_ID], length: u64) -> Vec<u8> {
+    id[..length.min(LONGEST_ID as u64) as usize].to_vec()
+}
+
+/// The second place as it is stored.
+#[derive(Clone, Debug, PartialEq, Eq)]
+pub struct Second {
+    /// Where it is 0 the place is empty, whatever the rest.
+    pub number: u32,
+    pub id: [u8; LONGEST_ID],
+    pub id_length: u64,
+    pub timestamp: u64,
+    pub size: u64,
+    pub root: Hash,
+}
+
+impl Second {
+    pub const EMPTY: Second = Second { number: 0, id: [0; LONGEST_ID], id_length: 0, timestamp: 0, size: 0, root: [0; 32] };
+
+    fn of(kept: &Kept) -> Second {
+        let (id, id_length) = stored_id(&kept.head.log_id);
+        let Head { timestamp, size, root, .. } = kept.head;
+        Second { number: kept.number as u32, id, id_length, timestamp, size, root }
+    }
+}
+
+/// The record as it is stored: any value has an answer, also one that no list of
 /// calls returns.
 #[derive(Clone, Debug, PartialEq, Eq)]
 pub struct Stored {
@@ -150,43 +243,51 @@ pub struct Stored {
     /// Not looked at where no head is held.
     pub algorithm: u64,
     pub id: [u8; LONGEST_ID],
-    /// How many bytes of `id` are the log id; above its length, all of them.
     pub id_length: u64,
     pub timestamp: u64,
     pub size: u64,
     pub root: Hash,
+    pub second: Second,
 }
 
 impl Stored {
-    pub const EMPTY: Stored = Stored { held: false, algorithm: 0, id: [0; LONGEST_ID], id_length: 0, timestamp: 0, size: 0, root: [0; 32] };
+    pub const EMPTY: Stored = Stored {
+        held: false,
+        algorithm: 0,
+        id: [0; LONGEST_ID],
+        id_length: 0,
+        timestamp: 0,
+        size: 0,
+        root: [0; 32],
+        second: Second::EMPTY,
+    };
 
-    pub fn head(&self) -> Record {
-        if !self.held {
-            return None;
+    /// What it says.
+    pub fn record(&self) -> Record {
+        let head = Head { log_id: read_id(&self.id, self.id_length), timestamp: self.timestamp, size: self.size, root: self.root };
+        let Second { number, ref id, id_length, timestamp, size, root } = self.second;
+        let refused = Head { log_id: read_id(id, id_length), timestamp, size, root };
+        Record {
+            held: self.held.then_some(Held { algorithm: self.algorithm, head }),
+            kept: (number != 0).then_some(Kept { number: number.into(), head: refused }),
         }
-        let length = self.id_length.min(LONGEST_ID as u64) as usize;
-        let log_id = self.id[..length].to_vec();
-        Some(Head { algorithm: self.algorithm, log_id, timestamp: self.timestamp, size: self.size, root: self.root })
     }
 
-    /// An accepted head; zeros follow its log id.
-    fn of(head: &Head) -> Stored {
-        let mut id = [0; LONGEST_ID];
-        id[..head.log_id.len()].copy_from_slice(&head.log_id);
-        let id_length = head.log_id.len() as u64;
-        Stored { held: true, algorithm: head.algorithm, id, id_length, timestamp: head.timestamp, size: head.size, root: head.root }
-    }
-
-    /// The number and the record after an offer; where it is refused, the very record.
+    /// The number and the record after an offer. A place that the offer does not change keeps its very bytes.
     pub fn offer(&self, hashes: Hashes, algorithm: u64, one: &Offer) -> (u64, Stored) {
-        match offer(hashes, algorithm, &self.head(), one) {
-            (0, after) => (0, Stored::of(&after.expect("an accepted head"))),
-            (number, _) => (number, self.clone()),
+        match change(hashes, algorithm, &self.record().held, one) {
+            Change::Held(Held { algorithm, head }) => {
+                let (id, id_length) = stored_id(&head.log_id);
+                let Head { timestamp, size, root, .. } = head;
+                (0, Stored { held: true, algorithm, id, id_length, timestamp, size, root, second: self.second.clone() })
+            }
+            Change::Kept(kept) => (kept.number, Stored { second: Second::of(&kept), ..self.clone() }),
+            Change::Nothing(number) => (number, self.clone()),
         }
     }
 
     pub fn page(&self, hashes: Hashes, algorithm: u64, call: &PageCall) -> u64 {
-        page(hashes, algorithm, &self.head(), call)
+        page(hashes, algorithm, &self.record(), call)
     }
 }
 
@@ -355,24 +456,44 @@ mod tests {
     use crate::sha256::{digest, node};
     use crate::tree::{self, LARGEST_SIZE};
 
+    fn a_head(size: u64, timestamp: u64, root: Hash) -> Head {
+        Head { log_id: b"log".to_vec(), timestamp, size, root }
+    }
+
+    /// With nothing in the second place.
+    fn holding(algorithm: u64, head: Head) -> Record {
+        Record { held: Some(Held { algorithm, head }), kept: None }
+    }
+
     /// By SHA-256, as most of what follows.
-    fn head(size: u64, timestamp: u64, root: Hash) -> Record {
-        Some(Head { algorithm: SHA256, log_id: b"log".to_vec(), timestamp, size, root })
+    fn a_record(size: u64, timestamp: u64, root: Hash) -> Record {
+        holding(SHA256, a_head(size, timestamp, root))
     }
 
     fn an_offer(size: u64, timestamp: u64, root: Hash, path: &[u8]) -> Offer {
         Offer { log_id: b"log".to_vec(), timestamp, size, root: root.to_vec(), path: path.to_vec() }
     }
 
+    /// The number of a refusal over a record with nothing in the second place, and whether the head is
+    /// kept there; all else is as it was.
+    fn refused(record: &Record, one: &Offer) -> (u64, bool) {
+        let (number, after) = offer(algorithm::hash, SHA256, record, one);
+        assert_ne!(number, 0);
+        let kept = Kept { number, head: one.head().unwrap_or(a_head(0, 0, [0; 32])) };
+        let is_kept = after.kept == Some(kept);
+        assert!((is_kept || after.kept.is_none()) && after.held == record.held);
+        (number, is_kept)
+    }
+
     #[test]
     fn empty_record() {
         let good = an_offer(9, 5, [1; 32], &[]);
-        assert_eq!(offer(algorithm::hash, SHA256, &None, &good), (0, head(9, 5, [1; 32])));
+        assert_eq!(offer(algorithm::hash, SHA256, &Record::EMPTY, &good), (0, a_record(9, 5, [1; 32])));
         let bad = |change: fn(&mut Offer)| {
             let mut offered = good.clone();
             change(&mut offered);
-            let (number, record) = offer(algorithm::hash, SHA256, &None, &offered);
-            assert_eq!(record, None);
+            let (number, is_kept) = refused(&Record::EMPTY, &offered);
+            assert!(!is_kept);
             number
         };
         assert_eq!(bad(|o| o.root.truncate(31)), 5);
@@ -383,9 +504,12 @@ mod tests {
         assert_eq!(bad(|o| (o.size = 0, o.path.extend([0; 32])).1), 6);
         assert_eq!(bad(|o| o.size = 0), 6);
         assert_eq!(bad(|o| o.path.extend([0; 32])), 7);
-        assert_eq!(page(algorithm::hash, SHA256, &None, &PageCall { place: 0, page: vec![0; LONGEST_ITEM + 1], path: vec![] }), 14);
+        assert_eq!(
+            page(algorithm::hash, SHA256, &Record::EMPTY, &PageCall { place: 0, page: vec![0; LONGEST_ITEM + 1], path: vec![] }),
+            14
+        );
         for size in [1, 1 << 32, (1 << 32) + 1, 1 << 63, LARGEST_SIZE - 1, LARGEST_SIZE] {
-            assert_eq!(offer(algorithm::hash, SHA256, &None, &an_offer(size, 5, [1; 32], &[])), (0, head(size, 5, [1; 32])));
+            assert_eq!(offer(algorithm::hash, SHA256, &Record::EMPTY, &an_offer(size, 5, [1; 32], &[])), (0, a_record(size, 5, [1; 32])));
         }
     }
 
@@ -394,21 +518,22 @@ mod tests {
     fn large_sizes() {
         let (a, b) = ([1; 32], [2; 32]);
         assert_eq!(
-            offer(algorithm::hash, SHA256, &head(1 << 32, 5, a), &an_offer((1 << 32) + 1, 6, node(&a, &b), &b)),
-            (0, head((1 << 32) + 1, 6, node(&a, &b)))
+            offer(algorithm::hash, SHA256, &a_record(1 << 32, 5, a), &an_offer((1 << 32) + 1, 6, node(&a, &b), &b)),
+            (0, a_record((1 << 32) + 1, 6, node(&a, &b)))
         );
         // The sizes are alike in their lower 32 bits, or in all but the highest one.
         for (held, size) in [(1, (1 << 32) + 1), (1, (1 << 63) + 1), (LARGEST_SIZE >> 1, LARGEST_SIZE)] {
-            let held = head(held, 5, a);
-            assert_eq!(offer(algorithm::hash, SHA256, &held, &an_offer(size, 5, a, &[])), (12, held.clone()));
-            assert_eq!(offer(algorithm::hash, SHA256, &held, &an_offer(size, 6, a, &[])), (7, held.clone()));
+            let held = a_record(held, 5, a);
+            assert_eq!(refused(&held, &an_offer(size, 5, a, &[])), (12, false));
+            assert_eq!(refused(&held, &an_offer(size, 5, b, &[])), (12, false));
+            assert_eq!(refused(&held, &an_offer(size, 6, a, &[])), (7, false));
         }
-        let held = head(LARGEST_SIZE, 5, a);
+        let held = a_record(LARGEST_SIZE, 5, a);
         assert_eq!(offer(algorithm::hash, SHA256, &held, &an_offer(LARGEST_SIZE, 5, a, &[])), (0, held.clone()));
-        assert_eq!(offer(algorithm::hash, SHA256, &held, &an_offer(LARGEST_SIZE, 5, b, &[])), (12, held.clone()));
-        assert_eq!(offer(algorithm::hash, SHA256, &held, &an_offer(LARGEST_SIZE, 6, a, &[])), (0, head(LARGEST_SIZE, 6, a)));
-        assert_eq!(offer(algorithm::hash, SHA256, &held, &an_offer(LARGEST_SIZE - 1, 6, a, &[])), (6, held.clone()));
-        assert_eq!(offer(algorithm::hash, SHA256, &held, &an_offer(LARGEST_SIZE, 6, b, &[])), (13, held.clone()));
+        assert_eq!(refused(&held, &an_offer(LARGEST_SIZE, 5, b, &[])), (12, true));
+        assert_eq!(offer(algorithm::hash, SHA256, &held, &an_offer(LARGEST_SIZE, 6, a, &[])), (0, a_record(LARGEST_SIZE, 6, a)));
+        assert_eq!(refused(&held, &an_offer(LARGEST_SIZE - 1, 6, a, &[])), (6, false));
+        assert_eq!(refused(&held, &an_offer(LARGEST_SIZE, 6, b, &[])), (13, true));
         assert_eq!(page(algorithm::hash, SHA256, &held, &PageCall { place: LARGEST_SIZE, page: vec![], path: vec![0; 64 * 32] }), 6);
         assert_eq!(page(algorithm::hash, SHA256, &held, &PageCall { place: LARGEST_SIZE - 1, page: vec![], path: vec![0; 64 * 32] }), 7);
         assert_eq!(page(algorithm::hash, SHA256, &held, &PageCall { place: LARGEST_SIZE - 1, page: vec![], path: vec![0; 63 * 32] }), 8);
@@ -471,103 +596,185 @@ mod tests {
     fn held_record() {
         let leaves = [[1; 32], [2; 32], [3; 32]];
         let (two, three) = (tree::root(digest, &leaves[..2]), tree::root(digest, &leaves));
-        let held = head(2, 5, two);
+        let held = a_record(2, 5, two);
         let good = an_offer(3, 6, three, &leaves[2]);
-        assert_eq!(offer(algorithm::hash, SHA256, &held, &good), (0, head(3, 6, three)));
+        assert_eq!(offer(algorithm::hash, SHA256, &held, &good), (0, a_record(3, 6, three)));
         // The same head again, and with a later timestamp.
         assert_eq!(offer(algorithm::hash, SHA256, &held, &an_offer(2, 5, two, &[])), (0, held.clone()));
-        assert_eq!(offer(algorithm::hash, SHA256, &held, &an_offer(2, 6, two, &[])), (0, head(2, 6, two)));
+        assert_eq!(offer(algorithm::hash, SHA256, &held, &an_offer(2, 6, two, &[])), (0, a_record(2, 6, two)));
         let bad = |change: fn(&mut Offer)| {
             let mut offered = good.clone();
             change(&mut offered);
-            let (number, record) = offer(algorithm::hash, SHA256, &held, &offered);
-            assert_eq!(record, held);
-            number
+            refused(&held, &offered)
         };
-        assert_eq!(bad(|o| (o.root.push(0), o.path.push(0)).0), 5);
-        assert_eq!(bad(|o| (o.log_id = b"x".to_vec(), o.path.push(0)).1), 5);
-        assert_eq!(bad(|o| (o.log_id = b"lag".to_vec(), o.path.push(0)).1), 10);
-        assert_eq!(bad(|o| (o.log_id = b"lag".to_vec(), o.size = 1).1), 11);
-        assert_eq!(bad(|o| (o.size = 1, o.timestamp = 4).1), 6);
-        assert_eq!(bad(|o| o.size = 0), 6);
-        assert_eq!(bad(|o| o.size = LARGEST_SIZE), 7);
-        assert_eq!(bad(|o| (o.size = 1, o.timestamp = 5).1), 6);
-        assert_eq!(bad(|o| (o.size = 2, o.timestamp = 4).1), 12);
-        assert_eq!(bad(|o| (o.size = 2, o.timestamp = 5).1), 12);
-        assert_eq!(bad(|o| o.timestamp = 4), 12);
-        assert_eq!(bad(|o| o.timestamp = 5), 12);
-        assert_eq!(bad(|o| (o.timestamp = 5, o.path.clear()).1), 12);
-        assert_eq!(bad(|o| o.size = 2), 13);
-        assert_eq!(bad(|o| o.path.extend([0; 32])), 7);
-        assert_eq!(bad(|o| o.path[3] ^= 1), 8);
-        assert_eq!(offer(algorithm::hash, SHA256, &held, &an_offer(2, 5, two, &[0; 32])), (7, held.clone()));
+        assert_eq!(bad(|o| (o.root.push(0), o.path.push(0)).0), (5, false));
+        assert_eq!(bad(|o| (o.log_id = b"x".to_vec(), o.path.push(0)).1), (5, false));
+        assert_eq!(bad(|o| (o.log_id = b"lag".to_vec(), o.path.push(0)).1), (10, false));
+        assert_eq!(bad(|o| (o.log_id = b"lag".to_vec(), o.size = 1).1), (11, false));
+        assert_eq!(bad(|o| (o.size = 1, o.timestamp = 4).1), (6, false));
+        assert_eq!(bad(|o| o.size = 0), (6, false));
+        assert_eq!(bad(|o| o.size = LARGEST_SIZE), (7, false));
+        assert_eq!(bad(|o| (o.size = 1, o.timestamp = 5).1), (6, false));
+        assert_eq!(bad(|o| (o.size = 2, o.timestamp = 4).1), (12, true));
+        assert_eq!(bad(|o| (o.size = 2, o.timestamp = 5).1), (12, true));
+        assert_eq!(bad(|o| o.timestamp = 4), (12, false));
+        assert_eq!(bad(|o| o.timestamp = 5), (12, false));
+        assert_eq!(bad(|o| (o.timestamp = 5, o.path.clear()).1), (12, false));
+        assert_eq!(bad(|o| o.size = 2), (13, true));
+        assert_eq!(bad(|o| o.path.extend([0; 32])), (7, false));
+        assert_eq!(bad(|o| o.path[3] ^= 1), (8, true));
+        assert_eq!(refused(&held, &an_offer(2, 5, two, &[0; 32])), (7, false));
     }
 
-    /// The cases by hand of request 4, each alone on one record: timestamp, size, root
-    /// and path of the offer, and its number.
+    /// The cases by hand of request 4, each alone on one record, with the column of request 8:
+    /// timestamp, size, root and path of the offer, its number, and whether it is kept. What is kept
+    /// takes the place of what was there before, and all else leaves that as it was.
     #[test]
     fn one_millisecond() {
         let leaves = [[1; 32], [2; 32], [3; 32]];
         let (a, b) = (tree::root(digest, &leaves[..2]), tree::root(digest, &leaves));
         let (right, wrong, none, two) = (&leaves[2][..], &[4; 32][..], &[][..], &[3; 64][..]);
-        let held = head(2, 5, a);
-        for (timestamp, size, root, path, expected) in [
-            (5, 2, a, none, 0),
-            (5, 2, a, right, 7),
-            (5, 2, a, two, 7),
-            (5, 2, b, none, 12),
-            (5, 2, b, right, 12),
-            (5, 3, b, right, 12),
-            (5, 3, b, wrong, 12),
-            (5, 3, b, none, 12),
-            (5, 3, a, none, 12),
-            (5, 3, a, right, 12),
-            (5, 3, a, two, 12),
-            (5, 1, b, none, 6),
-            (5, 1, a, none, 6),
-            (4, 2, a, none, 12),
-            (4, 2, a, right, 12),
-            (4, 2, b, none, 12),
-            (4, 3, b, right, 12),
-            (4, 1, b, none, 6),
-            (6, 2, a, none, 0),
-            (6, 2, a, right, 7),
-            (6, 2, b, none, 13),
-            (6, 2, b, right, 13),
-            (6, 3, b, right, 0),
-            (6, 3, b, none, 7),
-            (6, 3, b, wrong, 8),
-            (6, 3, a, right, 8),
-            (6, 1, b, none, 6),
-            (6, 2, b, &two[..33], 10),
-            (5, 2, a, &two[..33], 10),
+        let held = a_record(2, 5, a);
+        for (timestamp, size, root, path, expected, is_kept) in [
+            (5, 2, a, none, 0, false),
+            (5, 2, a, right, 7, false),
+            (5, 2, a, two, 7, false),
+            (5, 2, b, none, 12, true),
+            (5, 2, b, right, 12, true),
+            (5, 3, b, right, 12, false),
+            (5, 3, b, wrong, 12, false),
+            (5, 3, b, none, 12, false),
+            (5, 3, a, none, 12, false),
+            (5, 3, a, right, 12, false),
+            (5, 3, a, two, 12, false),
+            (5, 1, b, none, 6, false),
+            (5, 1, a, none, 6, false),
+            (4, 2, a, none, 12, false),
+            (4, 2, a, right, 12, false),
+            (4, 2, b, none, 12, true),
+            (4, 2, b, right, 12, true),
+            (4, 3, b, right, 12, false),
+            (4, 3, b, wrong, 12, false),
+            (4, 3, a, none, 12, false),
+            (4, 1, b, none, 6, false),
+            (6, 2, a, none, 0, false),
+            (6, 2, a, right, 7, false),
+            (6, 2, b, none, 13, true),
+            (6, 2, b, right, 13, true),
+            (6, 3, b, right, 0, false),
+            (6, 3, b, none, 7, false),
+            (6, 3, b, two, 7, false),
+            (6, 3, b, wrong, 8, true),
+            (6, 3, a, right, 8, true),
+            (6, 1, b, none, 6, false),
+            (6, 2, b, &two[..33], 10, false),
+            (5, 2, a, &two[..33], 10, false),
         ] {
-            let (number, after) = offer(algorithm::hash, SHA256, &held, &an_offer(size, timestamp, root, path));
-            assert_eq!(number, expected, "{timestamp} {size} {root:?} {}", path.len());
-            assert_eq!(after, if expected == 0 { head(size, timestamp, root) } else { held.clone() });
+            let one = an_offer(size, timestamp, root, path);
+            let head = a_head(size, timestamp, root);
+            // Nothing, another head, the very one by each number, and what no list returns.
+            let others = [8, 12, 13].map(|number| Kept { number, head: head.clone() }).into_iter().chain([
+                Kept { number: 8, head: a_head(3, 9, [7; 32]) },
+                Kept { number: 7, head: Head { log_id: vec![], ..a_head(0, 0, a) } },
+            ]);
+            for kept in others.map(Some).chain([None]) {
+                let before = Record { kept, ..held.clone() };
+                let (number, after) = offer(algorithm::hash, SHA256, &before, &one);
+                assert_eq!(number, expected, "{timestamp} {size} {root:?} {}", path.len());
+                let accepted = a_record(size, timestamp, root);
+                assert_eq!(after.held, if expected == 0 { accepted.held } else { held.held.clone() });
+                assert_eq!(after.kept, if is_kept { Some(Kept { number, head: head.clone() }) } else { before.kept });
+            }
         }
         // An empty record has no 12, and another log or a bad root comes first.
-        assert_eq!(offer(algorithm::hash, SHA256, &None, &an_offer(2, 0, b, none)), (0, head(2, 0, b)));
+        assert_eq!(offer(algorithm::hash, SHA256, &Record::EMPTY, &an_offer(2, 0, b, none)), (0, a_record(2, 0, b)));
         for timestamp in [4, 5] {
-            let one = an_offer(3, timestamp, b, right);
-            assert_eq!(offer(algorithm::hash, SHA256, &held, &Offer { log_id: b"lag".to_vec(), ..one.clone() }), (11, held.clone()));
-            assert_eq!(offer(algorithm::hash, SHA256, &held, &Offer { root: vec![0; 31], ..one }), (5, held.clone()));
+            let one = an_offer(2, timestamp, b, none);
+            assert_eq!(refused(&held, &Offer { log_id: b"lag".to_vec(), ..one.clone() }), (11, false));
+            assert_eq!(refused(&held, &Offer { root: vec![0; 31], ..one }), (5, false));
         }
         // No timestamp is before 0, and none after the last.
         for (timestamp, other) in [(0, u64::MAX), (u64::MAX, 0), (1 << 63, (1 << 63) - 1), ((1 << 32) - 1, 1 << 32)] {
-            let held = head(2, timestamp, a);
+            let held = a_record(2, timestamp, a);
             assert_eq!(offer(algorithm::hash, SHA256, &held, &an_offer(2, timestamp, a, none)), (0, held.clone()));
-            assert_eq!(offer(algorithm::hash, SHA256, &held, &an_offer(3, timestamp, b, right)), (12, held.clone()));
-            let after = if other > timestamp { (0, head(3, other, b)) } else { (12, held.clone()) };
+            assert_eq!(refused(&held, &an_offer(3, timestamp, b, right)), (12, false));
+            assert_eq!(refused(&held, &an_offer(2, timestamp, b, none)), (12, true));
+            assert_eq!(refused(&held, &an_offer(2, other, b, none)), (if other > timestamp { 13 } else { 12 }, true));
+            let after = if other > timestamp { (0, a_record(3, other, b)) } else { (12, held.clone()) };
             assert_eq!(offer(algorithm::hash, SHA256, &held, &an_offer(3, other, b, right)), after);
         }
+    }
+
+    /// Lists by hand of request 8: each call's number, and the second place after it.
+    #[test]
+    fn refused_heads_in_a_row() {
+        let pages = [b"a", b"b", b"c"];
+        let leaves = pages.map(|page| leaf_hash(digest, page));
+        let [one, two, three] = [1, 2, 3].map(|size| tree::root(digest, &leaves[..size]));
+        let (b, c) = ([0xb2; 32], [0xc2; 32]);
+        let head = |timestamp: u64, size: u64, root: Hash, path: &[u8]| Call::Offer(an_offer(size, timestamp, root, path));
+        let page = |place: u64, path: &[u8]| Call::Page(PageCall { place, page: b"a".to_vec(), path: path.to_vec() });
+        let kept = |number: u64, timestamp: u64, size: u64, root: Hash| Some(Kept { number, head: a_head(size, timestamp, root) });
+        let check = |calls: &[(Call, u64, Option<Kept>)], last: Record| {
+            let answers = run(algorithm::hash, &under(SHA256, calls.iter().map(|(call, ..)| call.clone()).collect()));
+            for ((number, after), (call, expected, kept)) in answers.iter().zip(calls) {
+                assert_eq!((number, &after.kept), (expected, kept), "{call:?}");
+            }
+            assert_eq!(answers.last().unwrap().1.held, last.held);
+        };
+        let held = (head(5, 2, two, &[]), 0, None);
+        check(
+            &[
+                held.clone(),
+                (head(6, 2, b, &[]), 13, kept(13, 6, 2, b)),
+                (head(7, 3, c, &[4; 32]), 8, kept(8, 7, 3, c)),
+                (head(5, 3, b, &[]), 12, kept(8, 7, 3, c)),
+                (head(6, 2, two, &[]), 0, kept(8, 7, 3, c)),
+            ],
+            a_record(2, 6, two),
+        );
+        // The head that was refused is accepted with a right path, and stays in the second place.
+        check(
+            &[
+                held.clone(),
+                (head(6, 3, three, &[4; 32]), 8, kept(8, 6, 3, three)),
+                (head(6, 3, three, &[]), 7, kept(8, 6, 3, three)),
+                (head(6, 3, three, &leaves[2]), 0, kept(8, 6, 3, three)),
+                (head(6, 3, three, &[]), 0, kept(8, 6, 3, three)),
+                (head(6, 3, b, &[]), 12, kept(12, 6, 3, b)),
+                (head(5, 3, b, &[]), 12, kept(12, 5, 3, b)),
+                (head(5, 3, three, &[]), 12, kept(12, 5, 3, b)),
+                (head(6, 3, b, &[]), 12, kept(12, 6, 3, b)),
+                (head(7, 3, b, &[]), 13, kept(13, 7, 3, b)),
+                (head(7, 3, b, &[]), 13, kept(13, 7, 3, b)),
+                (head(8, 3, three, &[]), 0, kept(13, 7, 3, b)),
+                (head(7, 3, b, &[]), 12, kept(12, 7, 3, b)),
+            ],
+            a_record(3, 8, three),
+        );
+        // Refused with 8, it comes again when its size is held.
+        check(
+            &[
+                (head(4, 1, one, &[]), 0, None),
+                (head(6, 2, two, &[4; 32]), 8, kept(8, 6, 2, two)),
+                (head(5, 2, two, &leaves[1]), 0, kept(8, 6, 2, two)),
+                (head(6, 2, two, &[]), 0, kept(8, 6, 2, two)),
+            ],
+            a_record(2, 6, two),
+        );
+        // No page call keeps anything, nor changes what is kept.
+        let pages = [(page(0, &leaves[1]), 0), (page(1, &leaves[1]), 8), (page(2, &[]), 6), (page(0, &[]), 7), (page(0, &[1]), 10)];
+        let with = |kept: Option<Kept>| pages.clone().map(|(call, number)| (call, number, kept.clone()));
+        let refused = (head(6, 2, b, &[]), 13, kept(13, 6, 2, b));
+        let calls = [&[(page(0, &[]), 14, None), held][..], &with(None), &[refused.clone()], &with(refused.2)].concat();
+        check(&calls, a_record(2, 5, two));
     }
 
     #[test]
     fn pages() {
         let pages = [b"one".to_vec(), b"two".to_vec()];
         let leaves: Vec<Hash> = pages.iter().map(|page| leaf_hash(digest, page)).collect();
-        let held = head(2, 5, tree::root(digest, &leaves));
+        let held = a_record(2, 5, tree::root(digest, &leaves));
         let good = PageCall { place: 1, page: pages[1].clone(), path: leaves[0].to_vec() };
         assert_eq!(page(algorithm::hash, SHA256, &held, &good), 0);
         assert_eq!(page(algorithm::hash, SHA256, &held, &PageCall { place: 0, ..good.clone() }), 8);
@@ -587,27 +794,32 @@ mod tests {
         let longer = PageCall { place: 9, page: vec![0; LONGEST_ITEM + 1], path: vec![1] };
         let bad = Offer { log_id: vec![], root: vec![], ..an_offer(0, 0, [0; 32], &[1]) };
         for by in UNKNOWN {
-            assert_eq!(page(hashes, by, &None, &longer), 16);
-            assert_eq!(offer(hashes, by, &None, &bad), (16, None));
-            assert_eq!(offer(hashes, by, &None, &an_offer(3, 5, [1; 32], &[])), (16, None));
+            assert_eq!(page(hashes, by, &Record::EMPTY, &longer), 16);
+            assert_eq!(offer(hashes, by, &Record::EMPTY, &bad), (16, Record::EMPTY));
+            assert_eq!(offer(hashes, by, &Record::EMPTY, &an_offer(3, 5, [1; 32], &[])), (16, Record::EMPTY));
             // A record that no list returns.
-            let held = Some(Head { algorithm: by, ..head(3, 5, [1; 32]).unwrap() });
+            let held = holding(by, a_head(3, 5, [1; 32]));
             for other in [by, 0x00, 0xf0] {
-                assert_eq!(offer(hashes, other, &held, &an_offer(3, 5, [1; 32], &[])), (16, held.clone()));
+                for root in [[1; 32], [2; 32]] {
+                    assert_eq!(offer(hashes, other, &held, &an_offer(3, 5, root, &[])), (16, held.clone()));
+                }
                 assert_eq!(page(hashes, other, &held, &longer), 16);
             }
         }
         for by in KNOWN {
-            assert_eq!((page(hashes, by, &None, &longer), offer(hashes, by, &None, &bad)), (14, (5, None)));
+            assert_eq!((page(hashes, by, &Record::EMPTY, &longer), offer(hashes, by, &Record::EMPTY, &bad)), (14, (5, Record::EMPTY)));
             // A refused first head leaves no number.
             let leaves = [b"a", b"b", b"c"].map(|page| leaf_hash(hashes(by).unwrap(), page));
             let roots = [2, 3].map(|size| tree::root(hashes(by).unwrap(), &leaves[..size]));
-            let (number, held) = offer(hashes, by, &None, &an_offer(2, 5, roots[0], &[]));
-            assert_eq!((number, &held), (0, &Some(Head { algorithm: by, ..head(2, 5, roots[0]).unwrap() })));
+            let (number, held) = offer(hashes, by, &Record::EMPTY, &an_offer(2, 5, roots[0], &[]));
+            assert_eq!((number, &held), (0, &holding(by, a_head(2, 5, roots[0]))));
             let (good, again) = (an_offer(3, 6, roots[1], &leaves[2]), an_offer(2, 5, roots[0], &[]));
+            // By the record's number these are 8, 13 and 12, and kept.
+            let evidence = [an_offer(3, 6, roots[1], &leaves[1]), an_offer(2, 6, roots[1], &[]), an_offer(2, 5, roots[1], &[])];
+            assert_eq!(evidence.each_ref().map(|one| offer(hashes, by, &held, one).1.kept.unwrap().number), [8, 13, 12]);
             let call = PageCall { place: 0, page: b"a".to_vec(), path: leaves[1].to_vec() };
             for another in UNKNOWN.into_iter().chain([other(by)]) {
-                for one in [&good, &again, &bad] {
+                for one in [&good, &again, &bad].into_iter().chain(&evidence) {
                     assert_eq!(offer(hashes, another, &held, one), (16, held.clone()));
                 }
                 assert_eq!([&call, &longer].map(|call| page(hashes, another, &held, call)), [16; 2]);
@@ -615,7 +827,7 @@ mod tests {
             assert_eq!([&call, &longer].map(|call| page(hashes, by, &held, call)), [0, 1]);
             // Each later head keeps the number.
             let (number, after) = offer(hashes, by, &held, &good);
-            assert_eq!((number, after.map(|head| head.algorithm)), (0, Some(by)));
+            assert_eq!((number, after.held.map(|held| held.algorithm)), (0, Some(by)));
         }
         // An empty record looks at no number of its own.
         for number in UNKNOWN.into_iter().chain(KNOWN) {
@@ -649,7 +861,7 @@ mod tests {
         for (algorithm, one) in disputes(calls, &accepted) {
             let h = hashes(algorithm).unwrap();
             // The record's, since the first head was accepted.
-            assert_eq!(answers.last().unwrap().1.as_ref().unwrap().algorithm, algorithm);
+            assert_eq!(answers.last().unwrap().1.held.as_ref().unwrap().algorithm, algorithm);
             let mut pair = [8; PAIR + 1];
             let settled = dispute(hashes, algorithm, &one, &mut pair);
             match strings(&one, settled, &pair) {
@@ -710,39 +922,174 @@ mod tests {
     }
 
     /// Sizes never fall and timestamps never go back, one timestamp has one head, and the hash
-    /// stays; a refusal changes nothing. The record as it is kept answers as the paper's does.
+    /// stays. The record as it is stored answers as the paper's does.
     #[test]
     fn records_only_grow() {
         let random = &mut Random::new(333);
         let mut others = 0;
         for _ in 0..40 {
             let calls = some_calls(weak, Kind::Forging, 6, 60, random);
-            let (mut before, mut stored): (Record, Stored) = (None, Stored::EMPTY);
+            let (mut before, mut stored) = (Record::EMPTY, Stored::EMPTY);
             for ((by, call), (number, after)) in calls.iter().zip(run(weak, &calls)) {
                 if number != 0 {
-                    assert_eq!(before, after);
+                    assert_eq!(before.held, after.held);
                 }
-                let is_other = before.as_ref().is_some_and(|held| held.algorithm != *by);
+                let is_other = before.held.as_ref().is_some_and(|held| held.algorithm != *by);
                 assert_eq!(number == 16, weak(*by).is_none() || is_other);
                 others += (number == 16) as usize;
-                if let (Some(old), Some(new)) = (&before, &after) {
+                if let (Some(old), Some(new)) = (&before.held, &after.held) {
+                    let (Held { algorithm, head: old }, Held { algorithm: then, head: new }) = (old, new);
                     assert!(new.size >= old.size && new.timestamp >= old.timestamp && new.log_id == old.log_id);
-                    assert!((new.timestamp > old.timestamp || new == old) && new.algorithm == old.algorithm);
+                    assert!((new.timestamp > old.timestamp || new == old) && then == algorithm);
                 }
-                assert!(before.is_none() || after.is_some());
-                match call {
+                assert!(before.held.is_none() || after.held.is_some());
+                stored = match call {
                     Call::Offer(one) => {
                         let (answer, next) = stored.offer(weak, *by, one);
                         assert_eq!(answer, number);
-                        stored = next;
+                        next
                     }
-                    Call::Page(one) => assert_eq!(stored.page(weak, *by, one), number),
-                }
-                assert_eq!(stored.head(), after);
+                    Call::Page(one) => {
+                        assert_eq!(stored.page(weak, *by, one), number);
+                        stored
+                    }
+                };
+                assert_eq!(stored.record(), after);
                 before = after;
             }
         }
         assert!(others > 100, "{others}");
+    }
+
+    /// The latest head of a list that was refused with 8, with 13, or with 12 where its size is that
+    /// of the head then held and its root another, by the calls and their numbers alone.
+    fn latest(calls: &[(u64, Call)], numbers: &[u64]) -> Option<(usize, Kept)> {
+        (0..calls.len()).rev().find_map(|at| {
+            let Call::Offer(one) = &calls[at].1 else { return None };
+            let is_such = match numbers[at] {
+                8 | 13 => true,
+                12 => {
+                    let held = accepted_heads(calls, numbers, at).last().unwrap();
+                    one.size == held.size && one.root != held.root
+                }
+                _ => false,
+            };
+            let head = || a_head(one.size, one.timestamp, one.root[..].try_into().unwrap());
+            is_such.then(|| (at, Kept { number: numbers[at], head: Head { log_id: one.log_id.clone(), ..head() } }))
+        })
+    }
+
+    fn accepted_heads<'a>(calls: &'a [(u64, Call)], numbers: &'a [u64], before: usize) -> impl Iterator<Item = &'a Offer> {
+        calls[..before].iter().zip(numbers).filter_map(|((_, call), number)| match call {
+            Call::Offer(one) if *number == 0 => Some(one),
+            _ => None,
+        })
+    }
+
+    /// After every call of a list the second place has the latest such head, or none where there was none;
+    /// every other refusal leaves the whole record as it was. What stands there is evidence.
+    fn check_second_place(hashes: Hashes, calls: &[(u64, Call)], met: &mut [usize; 4]) {
+        let answers = run(hashes, calls);
+        let numbers: Vec<u64> = answers.iter().map(|(number, _)| *number).collect();
+        let mut before = &Record::EMPTY;
+        for (at, (number, after)) in answers.iter().enumerate() {
+            let latest = latest(&calls[..=at], &numbers);
+            assert_eq!(after.kept.as_ref(), latest.as_ref().map(|(_, kept)| kept));
+            let is_new = latest.as_ref().is_some_and(|(then, _)| *then == at);
+            assert!(if *number == 0 { before.kept == after.kept } else { before.held == after.held });
+            assert!(*number == 0 || is_new || before == after);
+            before = after;
+            let Some((then, Kept { number, head })) = latest else {
+                met[0] += 1;
+                continue;
+            };
+            let mut accepted = accepted_heads(calls, &numbers, then);
+            let is_of = |one: &Offer| one.log_id == head.log_id && one.size == head.size && one.root != head.root;
+            match number {
+                8 => assert!(accepted.last().is_some_and(|held| held.log_id == head.log_id && held.size < head.size)),
+                _ => assert!(accepted.any(is_of)),
+            }
+            met[1 + [8, 12, 13].iter().position(|other| *other == number).unwrap()] += 1;
+        }
+    }
+
+    #[test]
+    fn second_place_has_the_latest() {
+        let random = &mut Random::new(8);
+        let mut met = [0; 4];
+        for _ in 0..40 {
+            for kind in KINDS {
+                check_second_place(algorithm::hash, &some_calls(algorithm::hash, kind, 64, 0, random), &mut met);
+                check_second_place(weak, &some_calls(weak, kind, 6, 20, random), &mut met);
+            }
+        }
+        assert!(met.iter().all(|count| *count > 200), "{met:?}");
+    }
+
+    /// Two records that differ in the second place alone give like answers and hold like heads for
+    /// ever; each keeps its own bytes there until a refused head is kept, and from then on they are alike.
+    #[test]
+    fn nothing_depends_on_the_second_place() {
+        let random = &mut Random::new(88);
+        let (mut apart, mut alike) = (0, 0);
+        for turn in 0..120 {
+            let calls = some_calls(weak, KINDS[turn % 3], 6, 20, random);
+            let id_length = *random.pick(&[0, 2, 127, 128, u64::MAX]);
+            let any = Second { number: random.draw() as u32, id: [random.byte(); LONGEST_ID], id_length, ..Second::EMPTY };
+            // Empty, or of one of the heads that come, or any.
+            let second = match (random.below(3), &calls[random.below(calls.len() as u64) as usize].1) {
+                (0, _) => Second { number: 0, root: random.hash(), ..any },
+                (1, Call::Offer(one)) if one.head().is_ok() => Second::of(&Kept { number: 13, head: one.head().unwrap() }),
+                _ => Second { timestamp: random.below(9), size: random.below(9), root: random.hash(), ..any },
+            };
+            let mut two = [Stored::EMPTY, Stored { second: second.clone(), ..Stored::EMPTY }];
+            let mut is_kept = false;
+            for (by, call) in &calls {
+                let answers = two.each_ref().map(|record| match call {
+                    Call::Offer(one) => record.offer(weak, *by, one),
+                    Call::Page(one) => (record.page(weak, *by, one), record.clone()),
+                });
+                assert_eq!(answers[0].0, answers[1].0);
+                two = answers.map(|(_, after)| after);
+                is_kept |= two[0].second != Second::EMPTY;
+                let expected = if is_kept { two[0].second.clone() } else { second.clone() };
+                assert_eq!(two[1], Stored { second: expected, ..two[0].clone() });
+                *if is_kept { &mut alike } else { &mut apart } += 1;
+            }
+        }
+        assert!(apart > 500 && alike > 500, "{apart} {alike}");
+    }
+
+    /// A stored second place of any value is read, and comes back as it was where nothing is kept; what
+    /// is kept has zeros after its log id.
+    #[test]
+    fn stored_second_places() {
+        let root = tree::root(digest, &[[1; 32], [2; 32]]);
+        let (_, held) = Stored::EMPTY.offer(algorithm::hash, SHA256, &an_offer(2, 5, root, &[]));
+        assert_eq!((held.record(), &held.second), (a_record(2, 5, root), &Second::EMPTY));
+        let mut id = [0; LONGEST_ID];
+        id[..3].copy_from_slice(b"log");
+        let other = Second { number: 13, id, id_length: 3, timestamp: 6, size: 2, root: [7; 32] };
+        let garbage = Second { id: [9; LONGEST_ID], ..other.clone() };
+        for number in [0, 1, 7, 8, 12, 13, u32::MAX] {
+            for id_length in [0, 1, 2, 127, 128, 1 << 63, u64::MAX] {
+                let second = Second { number, id_length, ..garbage.clone() };
+                for before in [&held, &Stored { held: false, ..held.clone() }] {
+                    let before = Stored { second: second.clone(), ..before.clone() };
+                    let log_id = vec![9; id_length.min(127) as usize];
+                    let kept = Kept { number: number.into(), head: Head { log_id, ..a_head(2, 6, [7; 32]) } };
+                    assert_eq!(before.record().kept, Some(kept).filter(|_| number != 0));
+                    // Accepted, also as the very first; refused with 7 and with 16.
+                    let accepted = Stored { second: second.clone(), ..held.clone() };
+                    assert_eq!(before.offer(algorithm::hash, SHA256, &an_offer(2, 5, root, &[])), (0, accepted));
+                    assert_eq!(before.offer(algorithm::hash, SHA256, &an_offer(2, 5, root, &[0; 32])), (7, before.clone()));
+                    assert_eq!(before.offer(algorithm::hash, 1, &an_offer(2, 6, [7; 32], &[])), (16, before.clone()));
+                }
+                let before = Stored { second, ..held.clone() };
+                let after = Stored { second: other.clone(), ..held.clone() };
+                assert_eq!(before.offer(algorithm::hash, SHA256, &an_offer(2, 6, [7; 32], &[])), (13, after));
+            }
+        }
     }
 
     /// A head is cut wherever it ends before its last node.

@@ -227,7 +227,7 @@ mod tests {
         }
         let requests = committed();
         let (asked, answered) = (requests.len(), answers(LAYERS, &requests).len());
-        assert!(asked < 2_400_000 && answered < 2_400_000, "{asked} and {answered}");
+        assert!(asked < 3_000_000 && answered < 3_000_000, "{asked} and {answered}");
         assert_eq!(requests, committed());
     }
 

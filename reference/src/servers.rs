@@ -2,7 +2,7 @@
 //! and forging ones.
 
 use crate::algorithm::{self, Hashes};
-use crate::auditor::{self, Call, Offer, PageCall, Record};
+use crate::auditor::{self, Call, Head, Offer, PageCall, Record};
 use crate::carry::{consistency_places, inclusion_places, parts, Leaves};
 use crate::proofs::near_power;
 use crate::random::Random;
@@ -88,7 +88,7 @@ pub enum Kind {
     Honest,
     /// Loses or changes a page, or drops the end of its list, and goes on as if nothing was.
     Forgetful,
-    /// Every second call is spoilt, or forged where the hash lets it.
+    /// Every second call is spoilt, or forged where the hash lets it; at times a refused head comes again.
     Forging,
 }
 
@@ -125,7 +125,7 @@ impl Server {
     /// `count` calls by the server's hash, each made knowing the record before it. A forger
     /// tries `tries` times to be accepted.
     pub fn calls(mut self, count: usize, tries: usize, random: &mut Random) -> Vec<Call> {
-        let mut record = None;
+        let mut record = Record::EMPTY;
         let mut calls = Vec::new();
         for turn in 0..count {
             let call = if turn == 0 && !random.one_in(4) || random.one_in(3) {
@@ -157,8 +157,12 @@ impl Server {
         let size = self.log.sizes[self.at];
         self.clock += random.below(3).max((self.signed != Some(size)) as u64);
         let mut offer = self.offer(size, record);
-        if record.is_some() && self.kind == Kind::Forging && random.one_in(2) {
-            offer = self.spoilt_offer(offer, record, tries, random);
+        if let (Some(_), Kind::Forging) = (&record.held, self.kind) {
+            offer = match &record.kept {
+                Some(kept) if random.one_in(4) => self.again(&kept.head, offer, record, random),
+                _ if random.one_in(2) => self.spoilt_offer(offer, record, tries, random),
+                _ => offer,
+            };
         }
         // A forger may have signed for a later time.
         self.clock = self.clock.max(offer.timestamp);
@@ -168,14 +172,14 @@ impl Server {
 
     fn some_page(&mut self, record: &Record, tries: usize, random: &mut Random) -> PageCall {
         let call = self.page(record, random);
-        match record {
+        match record.held {
             Some(_) if self.kind == Kind::Forging && random.one_in(2) => self.spoilt_page(call, record, tries, random),
             _ => call,
         }
     }
 
     fn offer(&self, size: u64, record: &Record) -> Offer {
-        let path = match record {
+        let path = match record.head() {
             Some(held) if held.size < size => self.log.consistency_path(held.size, size),
             _ => vec![],
         };
@@ -183,7 +187,7 @@ impl Server {
     }
 
     fn page(&self, record: &Record, random: &mut Random) -> PageCall {
-        let size = record.as_ref().map_or(1, |held| held.size);
+        let size = record.head().map_or(1, |held| held.size);
         let below: Vec<u64> = self.log.pages.range(..size).map(|(place, _)| *place).collect();
         if below.is_empty() {
             return PageCall { place: 0, page: vec![], path: vec![] };
@@ -193,8 +197,8 @@ impl Server {
     }
 
     fn spoilt_offer(&self, mut offer: Offer, record: &Record, tries: usize, random: &mut Random) -> Offer {
-        let held = record.as_ref().unwrap();
-        match random.below(19) {
+        let held = record.head().unwrap();
+        match random.below(22) {
             0 => offer.log_id = random.bytes(3),
             1 => spoil(&mut offer.log_id, random),
             2 => {
@@ -211,16 +215,17 @@ impl Server {
             }
             8 => spoil(&mut offer.root, random),
             9 | 10 => spoil(&mut offer.path, random),
-            // A second head of the held one's millisecond: a larger one with a right path; another
-            // root; a larger size with the held root; a smaller size.
+            // A second head of the held one's millisecond, or of an earlier one: a larger one with a right
+            // path; another root. Then of the same one: a larger size with the held root; a smaller size.
             11 | 12 => {
                 offer = self.larger(record, random);
-                offer.timestamp = held.timestamp;
+                offer.timestamp = held.timestamp.saturating_sub(*random.pick(&[0, 0, 1]));
             }
-            13 => {
+            13 | 19 => {
                 let mut root = held.root.to_vec();
                 root[*random.pick(&[0, 7, 31])] ^= 1 << random.below(8);
-                offer = Offer { timestamp: held.timestamp, size: held.size, root, path: vec![], ..offer };
+                let timestamp = held.timestamp.saturating_sub(*random.pick(&[0, 0, 1, 2]));
+                offer = Offer { timestamp, size: held.size, root, path: vec![], ..offer };
             }
             14 => {
                 let size = held.size.saturating_add(random.between(1, 6));
@@ -232,6 +237,15 @@ impl Server {
             16 => {
                 let path = self.any_nodes(random.below(3) as usize, random);
                 offer = Offer { timestamp: held.timestamp, size: held.size, root: held.root.to_vec(), path, ..offer };
+            }
+            // A larger one that is right but for its path: a wrong node, or one too many.
+            17 | 18 => {
+                let timestamp = offer.timestamp.max(held.timestamp.saturating_add(1));
+                offer = Offer { timestamp, ..self.larger(record, random) };
+                match offer.path.first_mut() {
+                    Some(byte) if !random.one_in(4) => *byte ^= 1,
+                    _ => offer.path.extend(random.hash()),
+                }
             }
             _ => {
                 offer.size = held.size.saturating_add(random.below(6));
@@ -249,10 +263,18 @@ impl Server {
         offer
     }
 
+    /// A refused head again, at its time or at this one, with the log's path: it is right where only the path was wrong.
+    fn again(&self, refused: &Head, offer: Offer, record: &Record, random: &mut Random) -> Offer {
+        let held = record.head().unwrap();
+        let path = if refused.size > held.size { self.log.consistency_path(held.size, refused.size) } else { vec![] };
+        let timestamp = *random.pick(&[refused.timestamp, refused.timestamp, offer.timestamp]);
+        Offer { timestamp, size: refused.size, root: refused.root.to_vec(), path, ..offer }
+    }
+
     /// The log's next head. Behind its last one, any nodes and the root that they yield: a right
     /// path where the held size is a power of two, and else one that does not yield the held root.
     fn larger(&self, record: &Record, random: &mut Random) -> Offer {
-        let held = record.as_ref().unwrap();
+        let held = record.head().unwrap();
         if let Some(size) = self.log.sizes.iter().find(|size| **size > held.size) {
             return self.offer(*size, record);
         }
@@ -267,7 +289,7 @@ impl Server {
     }
 
     fn spoilt_page(&self, mut call: PageCall, record: &Record, tries: usize, random: &mut Random) -> PageCall {
-        let held = record.as_ref().unwrap();
+        let held = record.head().unwrap();
         match random.below(9) {
             0 => call.place = random.below(held.size),
             1 => call.place = *random.pick(&[held.size, held.size - 1, u64::MAX]),
@@ -349,9 +371,9 @@ mod tests {
             let (hashes, by): (Hashes, u64) = (if turn % 2 == 0 { hash } else { weak }, KNOWN[turn / 2 % 2]);
             let most = LARGEST_SIZE >> random.below(64);
             let calls = under(by, Server::random(hashes, by, Kind::Honest, most, random).calls(30, 0, random));
-            let mut before: Record = None;
+            let mut before = Record::EMPTY;
             for ((_, call), (number, after)) in calls.iter().zip(auditor::run(hashes, &calls)) {
-                match (call, &before) {
+                match (call, before.head()) {
                     (Call::Page(_), None) => assert_eq!(number, 14),
                     (Call::Page(_), Some(_)) => assert_eq!(number, 0),
                     (Call::Offer(_), None) => assert_eq!(number, 0),

@@ -1,8 +1,8 @@
 -- What an auditor's record holds over every list of calls: the head that was accepted last, which never goes back. Assumes nothing.
-use mathlib.Core.Path.{_≡_, refl, sym, ap, ap₂, _∙_}
+use mathlib.Core.Path.{_≡_, refl, sym, ap, _∙_}
 use mathlib.Core.Bool.{Bool, true, false}
 use mathlib.Core.Logic.{_⊎_, inl, inr}
-use mathlib.Core.List.{List, [], _∷_, _++_, map}
+use mathlib.Core.List.{List, [], _∷_, _++_}
 use Prim.Native.Nat.{ℕ, zero, suc, _^_, _≤_, _<_}
 use native.Mathlib.Omega.{arith}
 use lib.Dec.{ltb, eqb}
@@ -18,18 +18,19 @@ use Rattle.tree.proofs.Counting.{bounds}
 use Rattle.tree.proofs.Accepting.{pass, consistency-accepted}
 use Rattle.auditor.specs.declared.Record.{Record}
 use Rattle.auditor.specs.Held.{Held, empty, head, view, choice, emptyRecord}
+use Rattle.auditor.specs.Second.{beside}
 use Rattle.auditor.specs.Offer.{kept}
 use Rattle.auditor.specs.Page.{pageNumber}
 use Rattle.auditor.specs.Heads.{Heads, then}
-use Rattle.auditor.specs.Calls.{Call, offer, ask, Entry, answered, Numbered, under, plain, called, entry, answers, final, callOf, accepted, paperNumber, paperAfter, run, heads}
+use Rattle.auditor.specs.Calls.{Call, offer, ask, Entry, answered, Numbered, under, plain, called, entry, answers, final, accepted, paperNumber, paperAfter, run, heads}
 use Rattle.auditor.specs.Timestamps.{OneHeadEach, OneTimestamp}
-use Rattle.auditor.specs.Claims.{lastHead, HeldIsAccepted, RefusedAddNothing, SixteenFirst, NeverBack}
+use Rattle.auditor.specs.Claims.{lastHead, HeldIsAccepted, SixteenFirst, NeverBack}
 use Rattle.auditor.proofs.Offering.{taken, view-empty}
-use Rattle.auditor.proofs.Numbering.{afterCall, called-16, went, stays, held-choice, free-choice, bound-other, offers-first, first-number, view-after, callsOf, one-hash-of, two-accepted, holds-nothing, all-numbered}
+use Rattle.auditor.proofs.Numbering.{afterCall, called-16, went, stays, view-beside, held-choice, free-choice, bound-other, offers-first, first-number, view-after, callsOf, one-hash-of, two-accepted, holds-nothing, all-numbered}
 use Rattle.auditor.proofs.Reading.{Fits}
 
 -- an entry of a call
-last-of : (H : List ℕ → List ℕ) (held : Held) (c : Call) (n : ℕ) (es : List Entry) → lastHead (paperAfter H held c n) es ≡ lastHead held (answered c n ∷ es)
+pub last-of : (H : List ℕ → List ℕ) (held : Held) (c : Call) (n : ℕ) (es : List Entry) → lastHead (paperAfter H held c n) es ≡ lastHead held (answered c n ∷ es)
 unfolding lastHead paperAfter kept
 last-of H held (offer id time size root path) zero es = refl
 last-of H held (offer id time size root path) (suc n) es = refl
@@ -49,7 +50,10 @@ last-step r n c calls i zero e =
     let H = hashOf (g .by) in
     let s = afterCall n r c 0 in
     rw (g .next) (i s ∙ ap (λ (v : Held). lastHead v (plain (answers s calls))) (view-after n r c 0 H) ∙ last-of H (view r) c 0 (plain (answers s calls)))
-last-step r n c calls i (suc k) e = rw (stays r (under n c) k e) (i r ∙ last-refused (view r) c k (plain (answers r calls)))
+last-step r n c calls i (suc k) e =
+    let s = stays r (under n c) k e in
+    let t = beside r (s .place) in
+    rw (s .same) (i t ∙ ap (λ (v : Held). lastHead v (plain (answers t calls))) (view-beside r (s .place)) ∙ last-refused (view r) c k (plain (answers t calls)))
 
 held-last : (calls : List (Numbered Call)) (r : Record) → view (final r calls) ≡ lastHead (view r) (plain (answers r calls))
 unfolding final answers entry plain lastHead
@@ -63,22 +67,6 @@ view-none = refl
 pub held-is-accepted : HeldIsAccepted
 held-is-accepted calls =
     (held-last calls emptyRecord ∙ ap (λ (held : Held). lastHead held (plain (answers emptyRecord calls))) view-none, all-numbered calls emptyRecord holds-nothing)
-
--- a call in front of others of which it is said
-Adds : Record → Record → List (Numbered Call) → List (Numbered Entry) → Type 0
-Adds r next calls es = (answers r (map callOf es) ≡ es) × (final r (map callOf es) ≡ final next calls)
-
-one-call : (r : Record) (n : ℕ) (c : Call) (calls : List (Numbered Call)) (k : ℕ) → called r (under n c) .number ≡ k →
-    Adds (called r (under n c) .after) (called r (under n c) .after) calls (accepted (answers (called r (under n c) .after) calls)) →
-    Adds r (called r (under n c) .after) calls (accepted (under n (answered c k) ∷ answers (called r (under n c) .after) calls))
-unfolding Adds answers entry final accepted callOf
-one-call r n c calls zero e i = (ap₂ (λ (k : ℕ) (es : List (Numbered Entry)). under n (answered c k) ∷ es) e (i .0), i .1)
-one-call r n c calls (suc k) e i = let s = stays r (under n c) k e in rw s (rw s at i)
-
-pub refused-add-nothing : RefusedAddNothing
-unfolding Adds answers entry final accepted
-refused-add-nothing r [] = (refl, refl)
-refused-add-nothing r (under n c ∷ calls) = one-call r n c calls (called r (under n c) .number) refl (refused-add-nothing (called r (under n c) .after) calls)
 
 -- ---- 16 before all else
 

@@ -9,9 +9,11 @@ pub mod Following
 pub mod Disputing
 pub mod Numbering
 pub mod Holding
+pub mod Refusing
 pub mod Settling
 pub mod Keeping
 pub mod Computing
 pub mod Serving
 pub mod Timestamps
+pub mod Showing
 pub mod Every

@@ -17,7 +17,9 @@ use Rattle.hash.specs.Algorithm.{algorithmOf, heldBy}
 use Rattle.hash.specs.Digest.{hashOf, byNamed}
 use Rattle.auditor.specs.declared.Record.{Record}
 use Rattle.auditor.specs.declared.Answered.{Answered}
+use Rattle.auditor.specs.declared.Evidence.{Evidence}
 use Rattle.auditor.specs.Held.{Held, empty, head, view, choice, stayed, emptyRecord, holding}
+use Rattle.auditor.specs.Second.{isEvidence, evidenceOf, beside}
 use Rattle.auditor.specs.Offer.{offerNumber, kept, keptRecord, offeredOver, offered}
 use Rattle.auditor.specs.Page.{pageNumber, asked}
 use Rattle.auditor.specs.Heads.{Heads, then}
@@ -28,11 +30,20 @@ use Rattle.auditor.proofs.Offering.{view-held, view-empty}
 
 -- ---- one call
 
+-- a record and another that differs from it in the second place at most
+pub record Beside (r s : Record) : Type 0 where
+  pub place : Evidence
+  pub same : s ≡ beside r place
+
+written : (b : Bool) (r : Record) (e : Evidence) → Beside r (cond b (beside r e) r)
+written true r e = record { place = e; same = refl }
+written false r e = record { place = r .evidence; same = refl }
+
 -- the code's record after an offer stands for the paper's
 pub view-kept : (n : ℕ) (r : Record) (id : List ℕ) (time size : ℕ) (root : List ℕ) (k : ℕ) → view (keptRecord n r id time size root k) ≡ kept (view r) id time size root k
 unfolding keptRecord kept view holding over
 view-kept n r id time size root zero = ap (λ (x : List ℕ). head x time size root) (take-at id (drop (length id) (replicate 127 0)) (length id) refl)
-view-kept n r id time size root (suc k) = refl
+view-kept n r id time size root (suc k) = ap view (written (isEvidence (view r) (suc k) size root) r (evidenceOf (suc k) id time size root) .same)
 
 -- the record after a call that answered k under a hash
 unfoldable pub afterCall : ℕ → Record → Call → ℕ → Record
@@ -72,20 +83,29 @@ went r n c e = go (choice r n) refl
         sixteen : _≡_ {A = ℕ} 16 0 → ⊥
         sixteen z = omega arith
 
--- a call that answers no 0 returns the record that it got
-refuses : (n : ℕ) (r : Record) (c : Call) (j k : ℕ) → j ≡ suc k → afterCall n r c j ≡ r
+-- a call that answers no 0 returns the record that it got, but for the second place
+refuses : (n : ℕ) (r : Record) (c : Call) (k : ℕ) → Beside r (afterCall n r c (suc k))
 unfolding afterCall keptRecord
-refuses n r (offer id time size root path) j k f = rw f
-refuses n r (ask place page path) j k f = refl
+refuses n r (offer id time size root path) k = written (isEvidence (view r) (suc k) size root) r (evidenceOf (suc k) id time size root)
+refuses n r (ask place page path) k = written false r (r .evidence)
 
-pub stays : (r : Record) (c : Numbered Call) (k : ℕ) → called r c .number ≡ suc k → called r c .after ≡ r
+pub stays : (r : Record) (c : Numbered Call) (k : ℕ) → called r c .number ≡ suc k → Beside r (called r c .after)
 stays r (under n c) k e = go (choice r n) refl
   where
-    go : (m : Named) → choice r n ≡ m → called r (under n c) .after ≡ r
+    go : (m : Named) → choice r n ≡ m → Beside r (called r (under n c) .after)
     go (By a) f =
         let g = called-by a r n c f in
-        ap (λ (o : Answered). o .after) g ∙ refuses n r c _ k (sym (ap (λ (o : Answered). o .number) g) ∙ e)
-    go Unknown f = ap (λ (o : Answered). o .after) (called-16 r n c f)
+        rw (ap (λ (o : Answered). o .after) g ∙ ap (afterCall n r c) (sym (ap (λ (o : Answered). o .number) g) ∙ e)) (refuses n r c k)
+    go Unknown f = rw (called-16 r n c f) (written false r (r .evidence))
+
+-- what a record holds and goes by is not the second place's
+pub view-beside : (r : Record) (e : Evidence) → view (beside r e) ≡ view r
+unfolding view
+view-beside r e = refl
+
+pub choice-beside : (r : Record) (e : Evidence) (n : ℕ) → choice (beside r e) n ≡ choice r n
+unfolding choice
+choice-beside r e n = refl
 
 -- the view of the record after a call
 pub view-after : (n : ℕ) (r : Record) (c : Call) (k : ℕ) (H : List ℕ → List ℕ) → view (afterCall n r c k) ≡ paperAfter H (view r) c k
@@ -98,6 +118,9 @@ view-after n r (ask place page path) k H = refl
 pub record Bound (a : Algorithm) (r : Record) : Type 0 where
   pub holds : r .held ≡ true
   pub named : algorithmOf (r .algorithm) ≡ By a
+
+bound-beside : (a : Algorithm) (r : Record) (e : Evidence) → Bound a r → Bound a (beside r e)
+bound-beside a r e w = record { holds = w .holds; named = w .named }
 
 pub named-one : {x y : Algorithm} → By x ≡ By y → x ≡ y
 named-one f = cc
@@ -172,7 +195,10 @@ bound-step a r n c calls w i zero e =
     let s = afterCall n r c 0 in
     let t = subst (λ (v : Held). RunsUnder a v (answers s calls)) (view-after n r c 0 (hashOf a)) (i s (after-bound a r n c w (o .0))) in
     rw (g .next) (accept-one a (view r) n c (answers s calls) (ap (λ (b : Algorithm). paperNumber (hashOf b) (view r) c) (sym (o .1)) ∙ g .accepts) (ap algorithmOf (o .0) ∙ w .named) t)
-bound-step a r n c calls w i (suc k) e = rw (stays r (under n c) k e) (pass-one a (view r) n c k (answers r calls) (i r w))
+bound-step a r n c calls w i (suc k) e =
+    let s = stays r (under n c) k e in
+    let t = beside r (s .place) in
+    rw (s .same) (pass-one a (view r) n c k (answers t calls) (subst (λ (v : Held). RunsUnder a v (answers t calls)) (view-beside r (s .place)) (i t (bound-beside a r (s .place) w))))
 
 pub bound-runs : (a : Algorithm) (calls : List (Numbered Call)) (r : Record) → Bound a r → RunsUnder a (view r) (answers r calls)
 unfolding answers entry run accepted callOf plain AllBy
@@ -189,7 +215,7 @@ unfolding paperNumber pageNumber afterCall keptRecord holding
 offers-first H n r (offer id time size root path) a e f = record { holds = refl; named = f }
 offers-first H n r (ask place page path) a e f = absurd (omega (arith, e))
 
-free-step : (r : Record) (n : ℕ) (c : Call) (calls : List (Numbered Call)) → r .held ≡ false → OneHash (answers r calls) →
+free-step : (r : Record) (n : ℕ) (c : Call) (calls : List (Numbered Call)) → r .held ≡ false → ((s : Record) → s .held ≡ false → OneHash (answers s calls)) →
     (k : ℕ) → called r (under n c) .number ≡ k → OneHash (under n (answered c k) ∷ answers (called r (under n c) .after) calls)
 free-step r n c calls h i zero e =
     let g = went r n c e in
@@ -201,12 +227,15 @@ free-step r n c calls h i zero e =
     (bound-runs a calls s (offers-first (hashOf a) n r c a z f)) in
     record { alg = a; runs = rw (g .next) (accept-one a empty n c (answers s calls) z f t) }
 free-step r n c calls h i (suc k) e =
-    rw (stays r (under n c) k e) (record { alg = i .alg; runs = pass-one (i .alg) empty n c k (answers r calls) (i .runs) })
+    let s = stays r (under n c) k e in
+    let t = beside r (s .place) in
+    let u = i t h in
+    rw (s .same) (record { alg = u .alg; runs = pass-one (u .alg) empty n c k (answers t calls) (u .runs) })
 
 pub free-runs : (calls : List (Numbered Call)) (r : Record) → r .held ≡ false → OneHash (answers r calls)
 unfolding answers entry run accepted callOf plain AllBy
 free-runs [] r h = record { alg = some-hash; runs = record { one-run = refl; one-hash = tt } }
-free-runs (under n c ∷ calls) r h = free-step r n c calls h (free-runs calls r h) (called r (under n c) .number) refl
+free-runs (under n c ∷ calls) r h = free-step r n c calls h (λ s g. free-runs calls s g) (called r (under n c) .number) refl
 
 pub holds-nothing : emptyRecord .held ≡ false
 unfolding emptyRecord
@@ -308,7 +337,8 @@ sorted-step r n c (none h) zero e =
 sorted-step r n c (some a w) zero e =
     let g = went r n c e in
     rw (g .next) (some a (after-bound a r n c w (bound-one a r n w (g .by) (g .chose) .0)))
-sorted-step r n c s (suc k) e = rw (stays r (under n c) k e) s
+sorted-step r n c (none h) (suc k) e = rw (stays r (under n c) k e .same) (none h)
+sorted-step r n c (some a w) (suc k) e = rw (stays r (under n c) k e .same) (some a (bound-beside a r (stays r (under n c) k e .place) w))
 
 pub sorted-final : (calls : List (Numbered Call)) (r : Record) → Sorted r → Sorted (final r calls)
 unfolding final
@@ -341,14 +371,15 @@ number-step a r n c calls w i zero e =
     let o = bound-one a r n w (g .by) (g .chose) .0 in
     let t = subst (λ (h : ℕ). Numbers h (final (afterCall n r c 0) calls) (answers (afterCall n r c 0) calls)) (after-number n r c o) (i (afterCall n r c 0) (after-bound a r n c w o)) in
     rw (g .next) ((o, t .0), t .1)
-number-step a r n c calls w i (suc k) e = rw (stays r (under n c) k e) (i r w)
+number-step a r n c calls w i (suc k) e = let s = stays r (under n c) k e in rw (s .same) (i (beside r (s .place)) (bound-beside a r (s .place) w))
 
 bound-numbers : (a : Algorithm) (calls : List (Numbered Call)) (r : Record) → Bound a r → Numbers (r .algorithm) (final r calls) (answers r calls)
 unfolding Numbers AllUnder answers entry final
 bound-numbers a [] r w = (tt, refl)
 bound-numbers a (under n c ∷ calls) r w = number-step a r n c calls w (λ s v. bound-numbers a calls s v) (called r (under n c) .number) refl
 
-number-first : (r : Record) (n : ℕ) (c : Call) (calls : List (Numbered Call)) → r .held ≡ false → AllUnder (final r calls .algorithm) (answers r calls) →
+number-first : (r : Record) (n : ℕ) (c : Call) (calls : List (Numbered Call)) → r .held ≡ false →
+    ((s : Record) → s .held ≡ false → AllUnder (final s calls .algorithm) (answers s calls)) →
     (k : ℕ) → called r (under n c) .number ≡ k →
     AllUnder (final (called r (under n c) .after) calls .algorithm) (under n (answered c k) ∷ answers (called r (under n c) .after) calls)
 unfolding AllUnder Numbers
@@ -359,24 +390,24 @@ number-first r n c calls h i zero e =
     let s = afterCall n r c 0 in
     let t = bound-numbers a calls s (offers-first (hashOf a) n r c a z (sym (free-choice r n h) ∙ g .chose)) in
     rw (g .next) (first-number (hashOf a) n r c z ∙ sym (t .1), subst (λ (m : ℕ). AllUnder m (answers s calls)) (sym (t .1)) (t .0))
-number-first r n c calls h i (suc k) e = rw (stays r (under n c) k e) i
+number-first r n c calls h i (suc k) e = let s = stays r (under n c) k e in rw (s .same) (i (beside r (s .place)) h)
 
 pub all-numbered : (calls : List (Numbered Call)) (r : Record) → r .held ≡ false → AllUnder (final r calls .algorithm) (answers r calls)
 unfolding AllUnder answers entry final
 all-numbered [] r h = tt
-all-numbered (under n c ∷ calls) r h = number-first r n c calls h (all-numbered calls r h) (called r (under n c) .number) refl
+all-numbered (under n c ∷ calls) r h = number-first r n c calls h (λ s g. all-numbered calls s g) (called r (under n c) .number) refl
 
 -- ---- calls that all have the number of a hash, from a record that is free or bound to it
 
-bound-own-number : (a : Algorithm) (n : ℕ) (id : List ℕ) (time size : ℕ) (root : List ℕ) → algorithmOf n ≡ By a → choice (holding n id time size root) n ≡ By a
+bound-own-number : (a : Algorithm) (n : ℕ) (id : List ℕ) (time size : ℕ) (root : List ℕ) (p : Evidence) → algorithmOf n ≡ By a → choice (holding n id time size root p) n ≡ By a
 unfolding choice holding
-bound-own-number a n id time size root e = sym (held-itself n n refl) ∙ e
+bound-own-number a n id time size root p e = sym (held-itself n n refl) ∙ e
 
 own-after : (a : Algorithm) (n : ℕ) (r : Record) (c : Call) (k : ℕ) → algorithmOf n ≡ By a → choice r n ≡ By a → choice (afterCall n r c k) n ≡ By a
 unfolding afterCall keptRecord
-own-after a n r (offer id time size root path) zero e f = bound-own-number a n id time size root e
-own-after a n r (offer id time size root path) (suc k) e f = f
-own-after a n r (ask place page path) k e f = f
+own-after a n r (offer id time size root path) zero e f = bound-own-number a n id time size root (r .evidence) e
+own-after a n r (ask place page path) zero e f = f
+own-after a n r c (suc k) e f = let s = refuses n r c k in rw (s .same) (choice-beside r (s .place) n ∙ f)
 
 pub all-own : (a : Algorithm) (n : ℕ) → algorithmOf n ≡ By a → (calls : List Call) (r : Record) → choice r n ≡ By a →
     answers r (map (under n) calls) ≡ map (under n) (run (hashOf a) (view r) calls)

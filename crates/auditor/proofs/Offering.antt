@@ -1,6 +1,7 @@
 -- The number of an offer, and what an accepted one has passed, over any hash H. Assumes nothing.
 use mathlib.Core.Path.{_≡_, refl, sym, ap, ap₂, _∙_}
 use mathlib.Core.Bool.{false≢true, Bool, true, false, cond, not, _&&_, _||_}
+use mathlib.Core.Logic.{_⊎_, inl, inr}
 use mathlib.Core.List.{List}
 use Prim.Native.Nat.{ℕ, zero, suc, _%_, _≤_, _<_}
 use native.Mathlib.Omega.{arith}
@@ -12,8 +13,8 @@ use Rattle.tree.specs.Verdict.{consistencyVerdict}
 use Rattle.tree.proofs.Accepting.{pass}
 use Rattle.octets.proofs.Sameness.{same-true, same-of}
 use Rattle.auditor.specs.declared.Record.{Record}
-use Rattle.auditor.specs.declared.Answered.{Answered}
 use Rattle.auditor.specs.Held.{Held, empty, head, idOf, view, holding}
+use Rattle.auditor.specs.Second.{otherRoot, isEvidence, evidenceOf, beside}
 use Rattle.auditor.specs.Offer.{outside, stale, against, byRecord, offerNumber, keptRecord, offeredOver}
 
 -- what a record stands for
@@ -37,27 +38,36 @@ and-false : (a b : Bool) → a ≡ true → (a && b) ≡ false → b ≡ false
 and-false true b e f = f
 and-false false b e f = absurd (false≢true e)
 
+-- a test that gives another number was passed
+pub past : (b : Bool) (k x n : ℕ) → (n ≡ k → ⊥) → cond b k x ≡ n → (b ≡ false) × (x ≡ n)
+past true k x n z e = absurd (z (sym e))
+past false k x n z e = (refl, e)
+
 module _ (H : List ℕ → List ℕ) (held : Held) (id : List ℕ) (time size : ℕ) (root path : List ℕ) where
   -- 5 and 10 come before what the record decides
   pub passes : length root ≡ 32 → 2 ≤ length id → length id ≤ 127 → length path % 32 ≡ 0 → offerNumber H held id time size root path ≡ byRecord H held id time size root path
   unfolding offerNumber
   passes a b c d = simp (eq-eqb _ _ a, le-ltb _ _ b, le-ltb _ _ c, eq-eqb _ _ d)
 
-  pub record Passed : Type 0 where
+  -- what an offer with this number has passed, where it is none of these two
+  pub record Passed (n : ℕ) : Type 0 where
     pub root-32 : length root ≡ 32
     pub id-least : 2 ≤ length id
     pub id-most : length id ≤ 127
     pub path-whole : length path % 32 ≡ 0
-    pub by-record : byRecord H held id time size root path ≡ 0
+    pub by-record : byRecord H held id time size root path ≡ n
 
-  pub passed : offerNumber H held id time size root path ≡ 0 → Passed
+  pub passed-with : (n : ℕ) → (n ≡ 5 → ⊥) → (n ≡ 10 → ⊥) → offerNumber H held id time size root path ≡ n → Passed n
   unfolding offerNumber
-  passed e =
-      let a = pass (not (eqb (length root) 32)) 4 _ e in
-      let b = pass (ltb (length id) 2 || ltb 127 (length id)) 4 _ (a .1) in
-      let c = pass (not (eqb (length path % 32) 0)) 9 _ (b .1) in
+  passed-with n five ten e =
+      let a = past (not (eqb (length root) 32)) 5 _ n five e in
+      let b = past (ltb (length id) 2 || ltb 127 (length id)) 5 _ n five (a .1) in
+      let c = past (not (eqb (length path % 32) 0)) 10 _ n ten (b .1) in
       let d = or-false (ltb (length id) 2) (ltb 127 (length id)) (b .0) in
       record { root-32 = eqb-true _ _ (not-false _ (a .0)); id-least = ltb-false _ _ (d .0); id-most = ltb-false _ _ (d .1); path-whole = eqb-true _ _ (not-false _ (c .0)); by-record = c .1 }
+
+  pub passed : offerNumber H held id time size root path ≡ 0 → Passed 0
+  passed = passed-with 0 (λ e. omega arith) (λ e. omega arith)
 
 -- ---- timestamps
 
@@ -134,17 +144,52 @@ module _ (H : List ℕ → List ℕ) (id₀ : List ℕ) (time₀ size₀ : ℕ) 
   unfolding byRecord
   taken e = by-tests (passed H (head id₀ time₀ size₀ root₀) id time size root path e .by-record)
 
+-- ---- evidence
+
+-- what is evidence was refused with one of three numbers
+abbrev pub Number : Held → ℕ → ℕ → List ℕ → Type 0
+Number held n size root = (n ≡ 8) ⊎ ((n ≡ 13) ⊎ ((n ≡ 12) × (otherRoot held size root ≡ true)))
+
+pub evident : (held : Held) (n size : ℕ) (root : List ℕ) → isEvidence held n size root ≡ true → Number held n size root
+unfolding isEvidence
+evident held n size root e = go (eqb n 8) refl (eqb n 13) refl (eqb n 12) refl
+  where
+    go : (a : Bool) → eqb n 8 ≡ a → (b : Bool) → eqb n 13 ≡ b → (c : Bool) → eqb n 12 ≡ c → Number held n size root
+    go true f b g c h = inl (eqb-true n 8 f)
+    go false f true g c h = inr (inl (eqb-true n 13 g))
+    go false f false g true h = inr (inr (eqb-true n 12 h, rw (f, g, h) at e))
+    go false f false g false h = absurd (false≢true (rw (f, g, h) at e))
+
+-- so it passed 5 and 10
+pub evident-passed : (H : List ℕ → List ℕ) (held : Held) (id : List ℕ) (time size : ℕ) (root path : List ℕ) (n : ℕ) → isEvidence held n size root ≡ true →
+    offerNumber H held id time size root path ≡ n → Passed H held id time size root path n
+unfolding isEvidence
+evident-passed H held id time size root path n e = passed-with H held id time size root path n (λ q. no 5 refl q) (λ q. no 10 refl q)
+  where
+    no : (k : ℕ) → isEvidence held k size root ≡ false → n ≡ k → ⊥
+    no k f q = false≢true (sym f ∙ ap (λ (m : ℕ). isEvidence held m size root) (sym q) ∙ e)
+
+-- the code's record after an offer, by whether it is evidence
+pub kept-refused : (n : ℕ) (r : Record) (id : List ℕ) (time size : ℕ) (root : List ℕ) (k : ℕ) → (k ≡ 0 → ⊥) →
+    keptRecord n r id time size root k ≡ cond (isEvidence (view r) k size root) (beside r (evidenceOf k id time size root)) r
+unfolding keptRecord
+kept-refused n r id time size root zero z = absurd (z refl)
+kept-refused n r id time size root (suc k) z = refl
+
 -- the answer of an offer with its number k, under the hash H with the number n
 module _ (H : List ℕ → List ℕ) (n : ℕ) (r : Record) (id : List ℕ) (time size : ℕ) (root path : List ℕ) (k : ℕ) (e : k ≡ offerNumber H (view r) id time size root path) where
-  pub reports-refused : (k ≡ 0 → ⊥) → record { number = k; after = r } ≡ offeredOver H n r id time size root path
-  unfolding offeredOver keptRecord
-  reports-refused z = go k z e
-    where
-      go : (m : ℕ) → (m ≡ 0 → ⊥) → m ≡ offerNumber H (view r) id time size root path → record { number = m; after = r } ≡ offeredOver H n r id time size root path
-      go zero z f = absurd (z refl)
-      go (suc m) z f = ap (λ (j : ℕ). record { number = j; after = keptRecord n r id time size root j }) f
+  reports : record { number = k; after = keptRecord n r id time size root k } ≡ offeredOver H n r id time size root path
+  unfolding offeredOver
+  reports = ap (λ (j : ℕ). record { number = j; after = keptRecord n r id time size root j }) e
+
+  pub reports-refused : (b : Bool) → (k ≡ 0 → ⊥) → isEvidence (view r) k size root ≡ b →
+      record { number = k; after = cond b (beside r (evidenceOf k id time size root)) r } ≡ offeredOver H n r id time size root path
+  reports-refused b z f =
+      ap (λ (s : Record). record { number = k; after = s })
+      (sym (kept-refused n r id time size root k z ∙ ap (λ (c : Bool). cond c (beside r (evidenceOf k id time size root)) r) f))
+      ∙ reports
 
   pub reports-accepted : (a b : List ℕ) (l : ℕ) → k ≡ 0 → a ≡ over id (replicate 127 0) → b ≡ root → l ≡ length id →
-      record { number = 0; after = record { held = true; algorithm = n; id = a; idlen = l; timestamp = time; size = size; root = b } } ≡ offeredOver H n r id time size root path
-  unfolding offeredOver keptRecord holding
-  reports-accepted a b l z f g h = rw (f, g, h) (ap (λ (j : ℕ). record { number = j; after = keptRecord n r id time size root j }) (sym z ∙ e))
+      record { number = 0; after = record { held = true; algorithm = n; id = a; idlen = l; timestamp = time; size = size; root = b; evidence = r .evidence } } ≡ offeredOver H n r id time size root path
+  unfolding keptRecord holding
+  reports-accepted a b l z f g h = rw (f, g, h) (ap (λ (j : ℕ). record { number = j; after = keptRecord n r id time size root j }) (sym z) ∙ reports)

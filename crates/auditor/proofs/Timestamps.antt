@@ -48,7 +48,7 @@ only-stricter H id₀ time₀ size₀ root₀ id time size root path = record {
 -- ---- the head held, offered again
 
 -- the verdict on equal sizes and roots
-one-size : (H : List ℕ → List ℕ) (n : ℕ) (root path : List ℕ) → 0 < n → n ≤ largestSize → length root ≡ 32 → length path % 32 ≡ 0 →
+pub one-size : (H : List ℕ → List ℕ) (n : ℕ) (root path : List ℕ) → 0 < n → n ≤ largestSize → length root ≡ 32 → length path % 32 ≡ 0 →
     consistencyVerdict H n n root root path ≡ cond (eqb (length path) 0) 0 7
 unfolding consistencyVerdict
 one-size H n root [] some most root-32 whole = equal H .sizes n root root [] some most root-32 .1 (refl, refl)

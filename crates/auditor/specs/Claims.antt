@@ -18,7 +18,8 @@ use Rattle.growing.specs.Hashes.{fresh, rootNow}
 use Rattle.growing.specs.Calls as growing
 use Rattle.octets.specs.Answer.{Answer}
 use Rattle.auditor.specs.declared.Record.{Record}
-use Rattle.auditor.specs.Held.{Held, empty, head, view, stayed, emptyRecord}
+use Rattle.auditor.specs.Held.{Held, empty, head, view, stayed, noEvidence, emptyRecord}
+use Rattle.auditor.specs.Second.{beside}
 use Rattle.auditor.specs.Heads.{lastSize, lastRoot, joinedHeads, headsOf}
 use Rattle.auditor.specs.Dispute.{Ruling, disputeBy, disputeReport}
 use Rattle.auditor.specs.Calls.{Call, offer, ask, Entry, answered, Numbered, under, plain, called, answers, final, AllUnder, callOf, accepted, heads}
@@ -39,12 +40,13 @@ HeldIsAccepted =
     let entries = answers emptyRecord calls in
     (view end ≡ lastHead empty (plain entries)) × AllUnder (end .algorithm) entries)
 
--- Refused calls add nothing, from any record: left out of the list, the calls that are left answer as they did, and the last record is the same.
+-- Refused calls add nothing, from any record: left out of the list, the calls that are left answer as they did, and the last record is the same but for its
+-- second place.
 abbrev pub RefusedAddNothing : Type 0
 RefusedAddNothing =
     (r : Record) (calls : List (Numbered Call)) →
     (let es = accepted (answers r calls) in
-    (answers r (map callOf es) ≡ es) × (final r (map callOf es) ≡ final r calls))
+    (answers r (map callOf es) ≡ es) × (beside (final r (map callOf es)) noEvidence ≡ beside (final r calls) noEvidence))
 
 -- of two accepted heads the later has the number and the log id of the earlier, no smaller size, the same root where it has the same size, and a later
 -- timestamp, or the two are the same head

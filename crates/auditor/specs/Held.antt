@@ -1,4 +1,4 @@
--- The auditor's record: document 01, 'Auditor', and document 02, request 7. Assumes nothing: these are definitions.
+-- The auditor's record: document 01, 'Auditor', and document 02, requests 7 and 8. Assumes nothing: these are definitions.
 use mathlib.Core.Bool.{true, false, cond}
 use mathlib.Core.List.{List}
 use Prim.Native.Nat.{ℕ, zero, suc}
@@ -6,6 +6,7 @@ use lib.ListN.{length, take, replicate}
 use Rattle.octets.specs.Bytes.{over}
 use Rattle.hash.specs.declared.Named.{Named}
 use Rattle.hash.specs.Algorithm.{algorithmOf, heldBy}
+use Rattle.auditor.specs.declared.Evidence.{Evidence}
 use Rattle.auditor.specs.declared.Record.{Record}
 use Rattle.auditor.specs.declared.Answered.{Answered}
 
@@ -30,11 +31,16 @@ choice r n = cond (r .held) (heldBy (r .algorithm) n) (algorithmOf n)
 abbrev pub stayed : ℕ → Record → Answered
 stayed n r = record { number = n; after = r }
 
+-- the code's empty second place
+unfoldable pub noEvidence : Evidence
+noEvidence = record { number = 0; id = replicate 127 0; idlen = 0; timestamp = 0; size = 0; root = replicate 32 0 }
+
 -- the code's empty record
 unfoldable pub emptyRecord : Record
-emptyRecord = record { held = false; algorithm = 0; id = replicate 127 0; idlen = 0; timestamp = 0; size = 0; root = replicate 32 0 }
+emptyRecord =
+    record { held = false; algorithm = 0; id = replicate 127 0; idlen = 0; timestamp = 0; size = 0; root = replicate 32 0; evidence = noEvidence }
 
--- the code's record of a head under the number n: the log id has zeros after it
-unfoldable pub holding : ℕ → List ℕ → ℕ → ℕ → List ℕ → Record
-holding n id timestamp size root =
-    record { held = true; algorithm = n; id = over id (replicate 127 0); idlen = length id; timestamp = timestamp; size = size; root = root }
+-- the code's record of a head under the number n, with its second place: the log id has zeros after it
+unfoldable pub holding : ℕ → List ℕ → ℕ → ℕ → List ℕ → Evidence → Record
+holding n id timestamp size root e =
+    record { held = true; algorithm = n; id = over id (replicate 127 0); idlen = length id; timestamp = timestamp; size = size; root = root; evidence = e }

@@ -1,4 +1,5 @@
 pub mod Held
+pub mod Second
 pub mod Offer
 pub mod Page
 pub mod Heads
@@ -9,4 +10,5 @@ pub mod Demand
 pub mod Keeping
 pub mod Examples
 pub mod Claims
+pub mod Evidence
 pub mod Timestamps

@@ -11,6 +11,7 @@ use Rattle.tree.specs.Verdict.{consistencyVerdict}
 use Rattle.auditor.specs.declared.Record.{Record}
 use Rattle.auditor.specs.declared.Answered.{Answered}
 use Rattle.auditor.specs.Held.{Held, empty, head, view, holding, stayed, choice}
+use Rattle.auditor.specs.Second.{isEvidence, evidenceOf, beside}
 
 -- a size that no tree has
 unfoldable pub outside : ℕ → Bool
@@ -51,10 +52,10 @@ unfoldable pub kept : Held → List ℕ → ℕ → ℕ → List ℕ → ℕ →
 kept held id time size root zero = head id time size root
 kept held id time size root (suc n) = held
 
--- the same of the code's record: it holds the number of the hash
+-- the same of the code's record: it holds the number of the hash, and a refused head that is evidence goes into its second place
 unfoldable pub keptRecord : ℕ → Record → List ℕ → ℕ → ℕ → List ℕ → ℕ → Record
-keptRecord n r id time size root zero = holding n id time size root
-keptRecord n r id time size root (suc k) = r
+keptRecord n r id time size root zero = holding n id time size root (r .evidence)
+keptRecord n r id time size root (suc k) = cond (isEvidence (view r) (suc k) size root) (beside r (evidenceOf (suc k) id time size root)) r
 
 -- what the code answers under the hash H, which has the number n
 unfoldable pub offeredOver : (List ℕ → List ℕ) → ℕ → Record → List ℕ → ℕ → ℕ → List ℕ → List ℕ → Answered

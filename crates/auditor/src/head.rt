@@ -3,6 +3,9 @@ use super::bytes::id_of;
 use super::bytes::other_root;
 use super::bytes::root_of;
 use super::bytes::same_log;
+use super::second::beside;
+use super::second::is_evidence;
+use super::second::refused_head;
 use crate::Answered;
 use crate::Record;
 use crate::chosen;
@@ -126,24 +129,31 @@ fn offer_by(
     ensures { λ o. ⌜ o ≡ offeredOver (hashOf alg) algorithm r (now (id .entry)) timestamp size (now (root .entry)) (now (path .entry)) ⌝ }
 {
     let n = number(alg, r, id, timestamp, size, root, path);
-    if n != 0 {
-        return unchanged(n, r);
+    if n == 0 {
+        let evidence = r.evidence;
+        let after = Record {
+            held: true,
+            algorithm,
+            id: id_of(id),
+            idlen: id.len(),
+            timestamp,
+            size,
+            root: root_of(root),
+            evidence,
+        };
+        return Answered { number: 0, after };
     }
-    let after = Record {
-        held: true,
-        algorithm,
-        id: id_of(id),
-        idlen: id.len(),
-        timestamp,
-        size,
-        root: root_of(root),
-    };
-    Answered { number: 0, after }
+    if is_evidence(r, n, size, root) {
+        let after = beside(r, refused_head(n, id, timestamp, size, root));
+        return Answered { number: n, after };
+    }
+    unchanged(n, r)
 }
 
 // Offers a head with its log id, timestamp, size and root, and the consistency path to it from the head held, which is empty for the first. An accepted
-// head replaces the record, which then holds the number of the hash; a refusal returns it as it was. 16, before all else: no hash has the number, or the
-// record holds another. Then as `offer_by`.
+// head replaces the one held, and the record then holds the number of the hash. A head refused with 8, 13, or with 12 where it has the size held and
+// another root is put into the second place; every other refusal returns the record as it was. 16, before all else: no hash has the number, or the record
+// holds another. Then as `offer_by`.
 pub fn offer(
     algorithm: u64,
     r: Record,

@@ -2,13 +2,14 @@
 // two pages that were accepted at one place. No function empties a record, and the dispute takes none.
 //
 // head: an offer    page: a call for a page    dispute: two pages at one place    heads: heads joined in a buffer    journal: one head more
-// bytes: a record's bytes
+// bytes: a record's bytes    second: its second place
 mod bytes;
 pub mod dispute;
 pub mod head;
 mod heads;
 pub mod journal;
 pub mod page;
+mod second;
 
 ghost use mathlib.Core.Path.{_≡_};
 ghost use Rattle.octets.specs.Answer.{Faithful};
@@ -19,15 +20,27 @@ ghost use Rattle.auditor.specs.Demand.{Demand3, WhateverGiven, TwoAudito
 ghost use Rattle.auditor.specs.Keeping.{JournalJoins, AppendedReadsBack, LongEnough, AsKept};
 ghost use Rattle.auditor.specs.Examples.{Disputed};
 ghost use Rattle.auditor.specs.Timestamps.{OneTimestamp, HeldAgain, OnlyStricter};
+ghost use Rattle.auditor.specs.Evidence.{NothingDepends, OneException, LatestRefused, KeptIsEvidence, HonestLeavesNone};
 ghost use Rattle.auditor.specs.Claims.{HeldIsAccepted, RefusedAddNothing, SixteenFirst, NeverBack, HonestLog, GrownHeads};
 use bytes::no_id;
 use bytes::no_root;
 use hash::Named;
 use hash::algorithm_held;
 use hash::algorithm_of;
+use second::no_evidence;
+
+// A head that was refused, with the number of its refusal; nothing, where that number is 0. Its log id is the first `idlen` bytes of `id`.
+pub struct Evidence {
+    pub number: u32,
+    pub id: [u8; 127],
+    pub idlen: usize,
+    pub timestamp: u64,
+    pub size: u64,
+    pub root: [u8; 32],
+}
 
 // Nothing, where `held` is false; else the head that was accepted last, and the number of the hash that every accepted call went by. Its log id is the
-// first `idlen` bytes of `id`.
+// first `idlen` bytes of `id`. And a second place, on which nothing depends: the latest refused head that is evidence against the log.
 pub struct Record {
     pub held: bool,
     pub algorithm: u64,
@@ -36,6 +49,7 @@ pub struct Record {
     pub timestamp: u64,
     pub size: u64,
     pub root: [u8; 32],
+    pub evidence: Evidence,
 }
 
 // What a call answers: 0 or the number of its refusal, and the record after it.
@@ -44,7 +58,7 @@ pub struct Answered {
     pub after: Record,
 }
 
-// The record that holds nothing.
+// The record that holds nothing, in both places.
 pub fn empty() -> Record
     ensures { λ r. ⌜ r ≡ emptyRecord ⌝ }
 {
@@ -56,6 +70,7 @@ pub fn empty() -> Record
         timestamp: 0,
         size: 0,
         root: no_root(),
+        evidence: no_evidence(),
     }
 }
 
@@ -69,7 +84,7 @@ pub(crate) fn chosen(r: Record, algorithm: u64) -> Named
     algorithm_of(algorithm)
 }
 
-// The answer of a call that leaves the record as it was: a refusal, or a page.
+// The answer of a call that leaves the record as it was: a refusal that is no evidence, or a page.
 pub(crate) fn unchanged(n: u32, r: Record) -> Answered
     ensures { λ o. ⌜ o ≡ stayed n r ⌝ }
 {
@@ -95,6 +110,11 @@ pub fn claims()
     ensures one_timestamp { λ _. ⌜ OneTimestamp ⌝ }
     ensures held_again { λ _. ⌜ HeldAgain ⌝ }
     ensures only_stricter { λ _. ⌜ OnlyStricter ⌝ }
+    ensures nothing_depends { λ _. ⌜ NothingDepends ⌝ }
+    ensures one_exception { λ _. ⌜ OneException ⌝ }
+    ensures latest_refused { λ _. ⌜ LatestRefused ⌝ }
+    ensures kept_is_evidence { λ _. ⌜ KeptIsEvidence ⌝ }
+    ensures honest_leaves_none { λ _. ⌜ HonestLeavesNone ⌝ }
     ensures disputed { λ _. ⌜ Disputed ⌝ }
     ensures honest_log { λ _. ⌜ HonestLog ⌝ }
     ensures grown_heads { λ _. ⌜ GrownHeads ⌝ }

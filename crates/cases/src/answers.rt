@@ -8,13 +8,14 @@ pub(crate) const LINE: usize = 2 * MEMORY + 512;
 
 pub(crate) type Line = [u8; LINE];
 
-// What an entry answers: a number for each of at most `count` words, and two strings of bytes that it left in the lent buffer, one from the start up to
-// `mid`, the other from there up to `end`. The entry's letters say what is written.
+// What an entry answers: a number for each of at most `count` words, and three strings of bytes that it left in the lent buffer, one from the start up to
+// `mid`, one from there up to `end`, one from there up to `last`. The entry's letters say what is written.
 pub(crate) struct Answer {
     pub(crate) count: usize,
     pub(crate) number: [u64; 12],
     pub(crate) mid: usize,
     pub(crate) end: usize,
+    pub(crate) last: usize,
 }
 
 // Up to five numbers.
@@ -24,6 +25,7 @@ pub(crate) fn five(a: u64, b: u64, c: u64, d: u64, e: u64) -> Answer {
         number: [a, b, c, d, e, 0, 0, 0, 0, 0, 0, 0],
         mid: 0,
         end: 0,
+        last: 0,
     }
 }
 
@@ -141,12 +143,13 @@ fn put_number(out: &mut Line, at: usize, n: u64) -> usize {
     put_text(out, at, &text[..k])
 }
 
-// The bytes of a letter: the buffer that the request lends (l), or the first (m) or second (p) string of the answer.
+// The bytes of a letter: the buffer that the request lends (l), or the first (m), second (p) or third (q) string of the answer.
 fn string(letter: u8, a: Answer, lent: &[u8]) -> &[u8] {
     match letter {
         b'l' => lent,
         b'm' => part(lent, 0, a.mid),
-        _ => part(lent, a.mid, a.end),
+        b'p' => part(lent, a.mid, a.end),
+        _ => part(lent, a.end, a.last),
     }
 }
 

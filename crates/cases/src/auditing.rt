@@ -1,12 +1,17 @@
-// What the entries of the crate auditor call. After a call the record's log id lies at the start of the lent buffer, its root behind it.
+// What the entries of the crate auditor call. After a call the record's log id lies at the start of the lent buffer, its root behind it, then its second
+// place.
 use crate::answers::Answer;
+use crate::answers::behind;
 use crate::answers::keep;
 use crate::answers::keep_at;
 use crate::answers::one;
 use crate::answers::words;
+use crate::cut::part;
 use crate::hashing::hash_from;
 use crate::request::Numbers;
+use crate::request::SECOND;
 use auditor::Answered;
+use auditor::Evidence;
 use auditor::Record;
 use auditor::dispute::Settled;
 use auditor::journal::Appended;
@@ -20,7 +25,33 @@ fn id_from(s: &[u8]) -> [u8; 127] {
     b
 }
 
-fn record(n: Numbers, id: &[u8], root: &[u8]) -> Record {
+fn evidence_from(s: &[u8]) -> Evidence {
+    Evidence {
+        number: (octets::number_at(s, 0, octets::Width::Four) % 4294967296) as u32,
+        id: id_from(part(s, 28, 155)),
+        idlen: octets::number_at(s, 4, octets::Width::Eight) as usize,
+        timestamp: octets::number_at(s, 12, octets::Width::Eight),
+        size: octets::number_at(s, 20, octets::Width::Eight),
+        root: hash_from(part(s, 155, SECOND)),
+    }
+}
+
+fn keep_numbers(e: Evidence, lent: &mut [u8]) {
+    octets::put_number(lent, 0, octets::Width::Four, e.number as u64);
+    octets::put_number(lent, 4, octets::Width::Eight, e.idlen as u64);
+    octets::put_number(lent, 12, octets::Width::Eight, e.timestamp);
+    octets::put_number(lent, 20, octets::Width::Eight, e.size);
+}
+
+fn keep_evidence(e: Evidence, lent: &mut [u8]) {
+    let id = e.id;
+    let root = e.root;
+    keep_numbers(e, lent);
+    keep_at(&id, 28, lent);
+    keep_at(&root, 155, lent);
+}
+
+fn record(n: Numbers, id: &[u8], root: &[u8], second: &[u8]) -> Record {
     Record {
         held: n.b == 1,
         algorithm: n.c,
@@ -29,14 +60,17 @@ fn record(n: Numbers, id: &[u8], root: &[u8]) -> Record {
         timestamp: n.e,
         size: n.f,
         root: hash_from(root),
+        evidence: evidence_from(second),
     }
 }
 
 fn kept(r: Record, lent: &mut [u8]) {
     let i = r.id;
     let h = r.root;
+    let e = r.evidence;
     keep(&i, lent);
     keep_at(&h, 127, lent);
+    keep_evidence(e, behind(159, lent));
 }
 
 fn answered(a: Answered, lent: &mut [u8]) -> Answer {
@@ -60,6 +94,7 @@ fn answered(a: Answered, lent: &mut [u8]) -> Answer {
         ],
         mid: 127,
         end: 159,
+        last: 159 + SECOND,
     }
 }
 
@@ -83,20 +118,29 @@ fn offer(
     n: Numbers,
     id: &[u8],
     root: &[u8],
+    second: &[u8],
     log: &[u8],
     head: &[u8],
     path: &[u8],
     lent: &mut [u8],
 ) -> Answer {
     answered(
-        auditor::head::offer(n.a, record(n, id, root), log, n.g, n.h, head, path),
+        auditor::head::offer(n.a, record(n, id, root, second), log, n.g, n.h, head, path),
         lent,
     )
 }
 
-fn page(n: Numbers, id: &[u8], root: &[u8], bytes: &[u8], path: &[u8], lent: &mut [u8]) -> Answer {
+fn page(
+    n: Numbers,
+    id: &[u8],
+    root: &[u8],
+    second: &[u8],
+    bytes: &[u8],
+    path: &[u8],
+    lent: &mut [u8],
+) -> Answer {
     answered(
-        auditor::page::ask(n.a, record(n, id, root), n.g, bytes, path),
+        auditor::page::ask(n.a, record(n, id, root, second), n.g, bytes, path),
         lent,
     )
 }
@@ -130,8 +174,8 @@ pub(crate) fn answer(
     lent: &mut [u8],
 ) -> Answer {
     match entry {
-        b'a' => offer(n, a, b, c, d, e, lent),
-        b'b' => page(n, a, b, c, d, lent),
+        b'a' => offer(n, a, b, c, d, e, f, lent),
+        b'b' => page(n, a, b, c, d, e, lent),
         b'c' => dispute(n, a, b, c, d, e, f, lent),
         _ => append(n, a, b, lent),
     }

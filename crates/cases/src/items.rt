@@ -24,6 +24,7 @@ pub(crate) fn numbered(a: u64, b: u64) -> Answer {
         number: [a, b, 0, 0, 0, 0, 0, 0, 0, 0, 0, 0],
         mid: 0,
         end: 0,
+        last: 0,
     }
 }
 

@@ -79,11 +79,16 @@ fn most(letter: u8) -> u64 {
     }
 }
 
-// Whether a letter takes n bytes: a hash (h), a log id with what follows it (i), a growing tree's hashes (g), up to 256 words (w), or any.
+// The bytes of a record's second place: its number in 4, then the length of its log id, its timestamp and its size in 8 each, its log id, its root.
+pub(crate) const SECOND: usize = 187;
+
+// Whether a letter takes n bytes: a hash (h), a log id with what follows it (i), a record's second place (e), a growing tree's hashes (g), up to 256 words (w),
+// or any.
 fn fits(letter: u8, n: usize) -> bool {
     match letter {
         b'h' => n == 32,
         b'i' => n == 127,
+        b'e' => n == SECOND,
         b'g' => n == 32 * MOST_HASHES,
         b'w' => n <= 1024 && n % 4 == 0,
         _ => true,

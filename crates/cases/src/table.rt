@@ -17,7 +17,7 @@ use crate::trees;
 
 // A line for each entry: its name; a letter for its crate and one for the entry; a letter for each argument (request.rt); a letter for each word of its
 // answer (answers.rt).
-pub(crate) fn rows() -> [u8; 729] {
+pub(crate) fn rows() -> [u8; 733] {
     *b"digest ha nb nm\n\
 leaf hb nb nm\n\
 node hc nhh nm\n\
@@ -46,8 +46,8 @@ newer ic bb m\n\
 path_into id bnnl nnnl\n\
 first_read ie ssb nnnnnnnnnnnn\n\
 first_write if sssnnsbbbbbbl nnnl\n\
-offer aa nfninnnhbnnbb nnnmnnnp\n\
-page ab nfninnnhnbb nnnmnnnp\n\
+offer aa nfninnnhebnnbb nnnmnnnpq\n\
+page ab nfninnnhenbb nnnmnnnpq\n\
 dispute ac nbnbnbbbbl nnl\n\
 append ad lnnbb nnl\n"
 }

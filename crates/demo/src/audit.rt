@@ -35,12 +35,11 @@ fn after(a: Audit, record: Record, told: bool, number: u32) -> Audit {
     }
 }
 
-fn tell_head(what: &[u8], head: Head) {
+fn tell_head(what: &[u8], timestamp: u64, size: u64, root: &[u8]) {
     words(what);
-    say::count(b", ", head.size);
-    say::count(b" pages, time ", head.timestamp);
-    let root = head.root;
-    say::short(b", root ", &root);
+    say::count(b", ", size);
+    say::count(b" pages, time ", timestamp);
+    say::short(b", root ", root);
 }
 
 fn offered(r: Record, id: &[u8], head: Head, path: Made) -> Answered {
@@ -66,10 +65,21 @@ pub(crate) fn offer(
     path: Made,
     expected: u32,
 ) -> Audit {
-    tell_head(what, head);
+    let root = head.root;
+    tell_head(what, head.timestamp, head.size, &root);
     let answered = offered(a.record, id, head, path);
     let told = say::answer(answered.number, expected);
     after(a, answered.after, told, first(head.number, path.number))
+}
+
+// The refused head that the record keeps, with the number of its refusal.
+pub(crate) fn evidence(a: Audit, what: &[u8], expected: u32) -> Audit {
+    let r = a.record;
+    let kept = r.evidence;
+    let root = kept.root;
+    tell_head(what, kept.timestamp, kept.size, &root);
+    let told = say::answer(kept.number, expected);
+    after(a, r, told, 0)
 }
 
 fn tell_page(what: &[u8], place: u64, size: u64, page: Made) {

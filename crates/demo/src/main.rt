@@ -12,6 +12,7 @@ mod say;
 use audit::Audit;
 use audit::ask;
 use audit::compare;
+use audit::evidence;
 use audit::offer;
 use bytes::Made;
 use bytes::slice;
@@ -205,5 +206,7 @@ fn main() {
     a = go_back(a, three, log);
     words(b"\nThe signed page is asked for once more:\n");
     a = ask(a, b"  Signed page", 2, signed, inclusion(log, 7, 2), 0);
+    words(b"\nThe auditor has kept the latest head that speaks against the archive:\n");
+    a = evidence(a, b"  Refused head", 8);
     conclude(a.good);
 }

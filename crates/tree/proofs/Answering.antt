@@ -1,8 +1,9 @@
 -- Which number a verdict gives, by what holds: one law for each test, in the order of the tests, once for both verdicts. Assumes nothing.
 use mathlib.Core.Path.{_≡_, refl}
-use mathlib.Core.Bool.{Bool, true, false, _&&_, _||_}
+use mathlib.Core.Bool.{Bool, true, false, cond, not, _&&_, _||_}
 use mathlib.Core.List.{List}
 use Prim.Native.Nat.{ℕ, _/_, _%_, _≤_, _<_}
+use native.Mathlib.Omega.{arith}
 use lib.ListN.{length}
 use lib.Dec.{ltb, eqb}
 use borrow.Author.Tests.{lt-ltb, le-ltb, le-leb, lt-leb, eq-eqb, ne-eqb}
@@ -45,6 +46,21 @@ module _ (one two path : List ℕ) (outside : Bool) (count : ℕ) (agrees : Bool
             pub right-0 : agrees ≡ true → Says 0
             unfolding judged
             right-0 x = rw (eq-eqb (length one) 32 a, eq-eqb (length two) 32 b, eq-eqb (length path % 32) 0 c, d, eq-eqb (length path / 32) count e, x)
+
+-- and no number is above 10
+by-six : (a b c d e f : Bool) → cond a 5 (cond b 5 (cond c 10 (cond d 6 (cond e 7 (cond f 8 0))))) ≤ 10
+by-six true b c d e f = omega arith
+by-six false true c d e f = omega arith
+by-six false false true d e f = omega arith
+by-six false false false true e f = omega arith
+by-six false false false false true f = omega arith
+by-six false false false false false true = omega arith
+by-six false false false false false false = omega arith
+
+pub at-most-10 : (one two path : List ℕ) (outside : Bool) (count : ℕ) (agrees : Bool) → judged one two path outside count agrees ≤ 10
+unfolding judged
+at-most-10 one two path outside count agrees =
+    by-six (not (eqb (length one) 32)) (not (eqb (length two) 32)) (not (eqb (length path % 32) 0)) outside (not (eqb (length path / 32) count)) (not agrees)
 
 -- which numbers are out of range
 pub or-right : (a b : Bool) → b ≡ true → (a || b) ≡ true

@@ -3,13 +3,13 @@
 //! the same requests over weak hashes.
 
 use crate::algorithm::{self, Hashes, KNOWN, SHA256, SM3, UNKNOWN};
-use crate::auditor::{self, disputes, join_head, Call, Dispute, Offer, PageCall, Settled, Stored, LONGEST_ID};
+use crate::auditor::{self, disputes, join_head, Call, Dispute, Offer, PageCall, Second, Settled, Stored, LONGEST_ID};
 use crate::proofs::{judged, next_to_powers, plain_consistency, some_places, Proof};
 use crate::random::Random;
 use crate::requests::{lines_that_are_no_request, Asked, Entry, Layer, Requests};
 use crate::servers::{spoil, with_strays, Kind, Log, Server, KINDS};
 use crate::tree::{leaf_hash, node_hash, Hash, LARGEST_SIZE};
-use crate::words::{bytes, number, repeated, short, Word};
+use crate::words::{bytes, number, read_line, repeated, short, write_line, Word};
 use crate::yields;
 use std::cmp::Ordering::{self, Equal, Greater, Less};
 
@@ -28,8 +28,37 @@ pub const LAYER: Layer = Layer {
 
 // Answers.
 
+/// An offer or a page call with its number and the record that it is given.
+#[derive(Clone)]
+struct Given<T> {
+    by: u64,
+    record: Stored,
+    call: T,
+}
+
+/// The bytes of the second place: the number in 4 bytes, three numbers in 8 each, log id and root.
+const SECOND: usize = 4 + 3 * 8 + LONGEST_ID + 32;
+
+fn read_second(bytes: &[u8]) -> Option<Second> {
+    let bytes: &[u8; SECOND] = bytes.try_into().ok()?;
+    let eight = |at: usize| u64::from_be_bytes(bytes[at..at + 8].try_into().unwrap());
+    Some(Second {
+        number: u32::from_be_bytes(bytes[..4].try_into().unwrap()),
+        id_length: eight(4),
+        timestamp: eight(12),
+        size: eight(20),
+        id: bytes[28..28 + LONGEST_ID].try_into().unwrap(),
+        root: bytes[28 + LONGEST_ID..].try_into().unwrap(),
+    })
+}
+
+fn second_bytes(of: &Second) -> Vec<u8> {
+    let numbers = [of.id_length, of.timestamp, of.size].map(u64::to_be_bytes).concat();
+    [&of.number.to_be_bytes()[..], &numbers, &of.id, &of.root].concat()
+}
+
 fn read_record(words: &[Word]) -> Option<Stored> {
-    let [held, algorithm, id, id_length, timestamp, size, root] = words else { return None };
+    let [held, algorithm, id, id_length, timestamp, size, root, second] = words else { return None };
     Some(Stored {
         held: held.as_flag()?,
         algorithm: algorithm.as_number()?,
@@ -38,50 +67,55 @@ fn read_record(words: &[Word]) -> Option<Stored> {
         timestamp: timestamp.as_number()?,
         size: size.as_number()?,
         root: root.as_hash()?,
+        second: read_second(second.as_bytes()?)?,
     })
 }
 
-fn record_words(record: &Stored) -> Vec<Word> {
+/// Its bytes are written by `word`.
+fn record_words(record: &Stored, word: fn(&[u8]) -> Word) -> Vec<Word> {
     vec![
         number(record.held as u64),
         number(record.algorithm),
-        bytes(&record.id),
+        word(&record.id),
         number(record.id_length),
         number(record.timestamp),
         number(record.size),
-        bytes(&record.root),
+        word(&record.root),
+        word(&second_bytes(&record.second)),
     ]
 }
 
-fn asked(record: &Stored) -> Vec<Word> {
-    let mut words = record_words(record);
-    (words[2], words[6]) = (short(&record.id), short(&record.root));
-    words
-}
-
 fn answered(refusal: u64, after: &Stored) -> Vec<Word> {
-    [vec![number(refusal)], record_words(after)].concat()
+    [vec![number(refusal)], record_words(after, bytes)].concat()
 }
 
-fn offer(hashes: Hashes, words: &[Word]) -> Option<Vec<Word>> {
+fn read_offer(words: &[Word]) -> Option<Given<Offer>> {
     let [algorithm, record @ .., log_id, timestamp, size, root, path] = words else { return None };
-    let record = read_record(record)?;
-    let one = Offer {
+    let call = Offer {
         log_id: log_id.as_bytes()?.to_vec(),
         timestamp: timestamp.as_number()?,
         size: size.as_number()?,
         root: root.as_bytes()?.to_vec(),
         path: path.as_bytes()?.to_vec(),
     };
-    let (refusal, after) = record.offer(hashes, algorithm.as_number()?, &one);
+    Some(Given { by: algorithm.as_number()?, record: read_record(record)?, call })
+}
+
+fn offer(hashes: Hashes, words: &[Word]) -> Option<Vec<Word>> {
+    let Given { by, record, call } = read_offer(words)?;
+    let (refusal, after) = record.offer(hashes, by, &call);
     Some(answered(refusal, &after))
 }
 
-fn page(hashes: Hashes, words: &[Word]) -> Option<Vec<Word>> {
+fn read_page(words: &[Word]) -> Option<Given<PageCall>> {
     let [algorithm, record @ .., place, page, path] = words else { return None };
-    let record = read_record(record)?;
-    let one = PageCall { place: place.as_number()?, page: page.as_bytes()?.to_vec(), path: path.as_bytes()?.to_vec() };
-    Some(answered(record.page(hashes, algorithm.as_number()?, &one), &record))
+    let call = PageCall { place: place.as_number()?, page: page.as_bytes()?.to_vec(), path: path.as_bytes()?.to_vec() };
+    Some(Given { by: algorithm.as_number()?, record: read_record(record)?, call })
+}
+
+fn page(hashes: Hashes, words: &[Word]) -> Option<Vec<Word>> {
+    let Given { by, record, call } = read_page(words)?;
+    Some(answered(record.page(hashes, by, &call), &record))
 }
 
 fn dispute(hashes: Hashes, words: &[Word]) -> Option<Vec<Word>> {
@@ -114,13 +148,13 @@ fn append(words: &[Word]) -> Option<Vec<Word>> {
 // Requests, each by a number of its own.
 
 fn ask_offer(by: u64, record: &Stored, one: &Offer) -> Asked {
-    let mut words = [vec![number(by)], asked(record)].concat();
+    let mut words = [vec![number(by)], record_words(record, short)].concat();
     words.extend([short(&one.log_id), number(one.timestamp), number(one.size), short(&one.root), short(&one.path)]);
     ("offer", words)
 }
 
 fn ask_page(by: u64, record: &Stored, one: &PageCall) -> Asked {
-    let mut words = [vec![number(by)], asked(record)].concat();
+    let mut words = [vec![number(by)], record_words(record, short)].concat();
     words.extend([number(one.place), short(&one.page), short(&one.path)]);
     ("page", words)
 }
@@ -193,27 +227,24 @@ fn damaged_append(journal: &[u8], mut used: u64, mut head: Offer, random: &mut R
     ask_append(&journal[..room], used, &head)
 }
 
-/// A list of calls, each given the record that the call before returned; then the
-/// accepted heads appended to a journal, and the dispute of every two accepted
-/// pages at one place, some of them damaged.
-fn ask_list(hashes: Hashes, calls: &[(u64, Call)], random: &mut Random) -> Vec<Asked> {
+/// A list of calls, each given the record that the call before returned, and which were accepted.
+fn ask_calls(hashes: Hashes, calls: &[(u64, Call)]) -> (Vec<Asked>, Vec<bool>) {
     let mut record = Stored::EMPTY;
-    let (mut all, mut accepted) = (Vec::new(), Vec::new());
-    for (by, call) in calls {
-        let refusal = match call {
-            Call::Offer(one) => {
-                all.push(ask_offer(*by, &record, one));
-                let (refusal, after) = record.offer(hashes, *by, one);
-                record = after;
-                refusal
-            }
-            Call::Page(one) => {
-                all.push(ask_page(*by, &record, one));
-                record.page(hashes, *by, one)
-            }
+    let ask = |(by, call): &(u64, Call)| {
+        let (asked, (refusal, after)) = match call {
+            Call::Offer(one) => (ask_offer(*by, &record, one), record.offer(hashes, *by, one)),
+            Call::Page(one) => (ask_page(*by, &record, one), (record.page(hashes, *by, one), record.clone())),
         };
-        accepted.push(refusal == 0);
-    }
+        record = after;
+        (asked, refusal == 0)
+    };
+    calls.iter().map(ask).unzip()
+}
+
+/// A list of calls; then the accepted heads appended to a journal, and the dispute of every
+/// two accepted pages at one place, some of them damaged.
+fn ask_list(hashes: Hashes, calls: &[(u64, Call)], random: &mut Random) -> Vec<Asked> {
+    let (mut all, accepted) = ask_calls(hashes, calls);
     all.extend(ask_journal(calls, &accepted, random));
     for (by, one) in disputes(calls, &accepted) {
         let room = *random.pick(&[130, 130, 131, 150]);
@@ -321,14 +352,6 @@ fn with_single_faults<T: Clone>(good: &T, faults: &Faults<T>) -> Vec<(u64, T)> {
     all
 }
 
-/// An offer or a page call with its number and the record that it is given.
-#[derive(Clone)]
-struct Given<T> {
-    by: u64,
-    record: Stored,
-    call: T,
-}
-
 const ID: &[u8] = b"a log";
 
 /// The longest log id, of one byte: a record with it is written shorter.
@@ -343,6 +366,17 @@ fn stored(by: u64, id: &[u8], timestamp: u64, size: u64, root: [u8; 32]) -> Stor
     let (refusal, record) = Stored::EMPTY.offer(algorithm::hash, by, &offer);
     assert_eq!(refusal, 0);
     record
+}
+
+/// Any bytes in the second place: a request with them is written shorter.
+fn any_second() -> Second {
+    read_second(&[0x2a; SECOND]).unwrap()
+}
+
+/// Nothing, any bytes, and a refused head of this log.
+fn seconds(id: &[u8]) -> [Second; 3] {
+    let (held, one) = (stored(SHA256, id, 5, 2, HELD), Offer { log_id: id.to_vec(), ..offered(7, 3, [0xd4; 32], &NEXT) });
+    [Second::EMPTY, any_second(), held.offer(algorithm::hash, SHA256, &one).1.second]
 }
 
 /// A log of seven leaves, signed at 3, 6 and 7, with pages at 0 and 2.
@@ -551,18 +585,20 @@ fn rules(by: u64, every_pair: bool) -> Vec<(u64, Asked)> {
     let mut all = Vec::new();
     let offer =
         |timestamp: u64, size: u64, path: Vec<u8>| Offer { log_id: ID.to_vec(), timestamp, size, root: log.root(size).to_vec(), path };
-    let offers = |all: &mut Vec<(u64, Asked)>, record: &Stored, call: Offer, faults: Faults<Given<Offer>>| {
-        let good = Given { by, record: record.clone(), call };
-        all.extend(
-            with_faults(&good, &faults, every_pair).iter().map(|(refusal, one)| (*refusal, ask_offer(one.by, &one.record, &one.call))),
-        );
-    };
+    let ask_given = |(refusal, one): &(u64, Given<Offer>)| (*refusal, ask_offer(one.by, &one.record, &one.call));
     // A record that is empty may hold anything besides.
-    let empty = Stored { id: [3; LONGEST_ID], id_length: 5, timestamp: 100, size: 9, root: [8; 32], ..Stored::EMPTY };
-    offers(&mut all, &Stored::EMPTY, offer(50, 3, vec![]), offer_faults_of_the_empty_record());
-    offers(&mut all, &empty, offer(50, 3, vec![]), offer_faults_of_the_empty_record());
+    let empty = Stored { id: [3; LONGEST_ID], id_length: 5, timestamp: 100, size: 9, root: [8; 32], second: any_second(), ..Stored::EMPTY };
+    for record in [&Stored::EMPTY, &empty] {
+        let good = Given { by, record: record.clone(), call: offer(50, 3, vec![]) };
+        all.extend(with_faults(&good, &offer_faults_of_the_empty_record(), every_pair).iter().map(ask_given));
+    }
     let three = stored(by, ID, 50, 3, log.root(3));
-    offers(&mut all, &three, offer(51, 7, log.consistency_path(3, 7)), offer_faults());
+    let mut good = Given { by, record: three.clone(), call: offer(51, 7, log.consistency_path(3, 7)) };
+    all.extend(with_faults(&good, &offer_faults(), every_pair).iter().map(ask_given));
+    for second in &seconds(ID)[1..] {
+        good.record.second = second.clone();
+        all.extend(with_single_faults(&good, &offer_faults()).iter().map(ask_given));
+    }
 
     // Limits, on both kinds of record: log ids, sizes and timestamps.
     for (length, refusal) in [(2, 0), (127, 0), (126, 0), (1, 5), (0, 5), (128, 5), (300, 5)] {
@@ -604,8 +640,17 @@ fn rules(by: u64, every_pair: bool) -> Vec<(u64, Asked)> {
         }
         all.push((6, ask_offer(by, &record, &any(size - 1, vec![]))));
     }
-    all.extend(one_millisecond_cases(by));
-    all.extend([0, 5, u64::MAX].into_iter().flat_map(|held| grid(by, held)));
+    // Every way to differ; over other second places mostly in the large run.
+    for (at, second) in seconds(LONG).into_iter().enumerate() {
+        for held in [5, 0, u64::MAX].into_iter().filter(|held| every_pair || at == 0 || (at, *held) == (1, 5)) {
+            let record = Stored { second: second.clone(), ..held_at(by, held) };
+            all.extend(grid(by, held).iter().map(|(how, one)| (how.number(), ask_offer(by, &record, one))));
+        }
+    }
+    for list in refused_heads(by) {
+        let calls: Vec<(u64, Call)> = list.iter().map(|(_, _, by, call)| (*by, call.clone())).collect();
+        all.extend(list.iter().map(|(refusal, ..)| *refusal).zip(ask_calls(algorithm::hash, &calls).0));
+    }
     all.extend(far_apart(by));
 
     // Records that no list of calls returns.
@@ -614,11 +659,13 @@ fn rules(by: u64, every_pair: bool) -> Vec<(u64, Asked)> {
         let one = Offer { log_id: vec![7; LONGEST_ID], ..offer(51, 6, log.consistency_path(3, 6)) };
         all.push((if whole { 0 } else { 11 }, ask_offer(by, &record, &one)));
         all.push((11, ask_offer(by, &record, &Offer { log_id: vec![7; 126], ..one.clone() })));
+        let fork = Offer { size: 3, ..one };
+        all.push((if whole { 13 } else { 11 }, ask_offer(by, &record, &fork)));
         let page = PageCall { place: 2, page: log.pages[&2].clone(), path: log.path(2, 3) };
         all.push((0, ask_page(by, &record, &page)));
     }
     // Bytes after the log id are not looked at, and are zeros once a head is accepted.
-    let mut garbage = three.clone();
+    let mut garbage = Stored { second: any_second(), ..three.clone() };
     garbage.id[ID.len()..].fill(0xee);
     all.push((0, ask_offer(by, &garbage, &offer(51, 6, log.consistency_path(3, 6)))));
     all.push((0, ask_offer(by, &garbage, &offer(50, 3, vec![]))));
@@ -626,7 +673,7 @@ fn rules(by: u64, every_pair: bool) -> Vec<(u64, Asked)> {
     all.push((12, ask_offer(by, &garbage, &offer(49, 6, log.consistency_path(3, 6)))));
     all.push((11, ask_offer(by, &garbage, &Offer { log_id: garbage.id[..ID.len() + 1].to_vec(), ..offer(50, 6, vec![]) })));
     // A head of no leaves takes none behind it, whatever their size.
-    let nothing = Stored { size: 0, ..stored(by, LONG, 50, 1, hash) };
+    let nothing = Stored { size: 0, second: any_second(), ..stored(by, LONG, 50, 1, hash) };
     for offered in [0, 1, 3, (1 << 32) + 1, LARGEST_SIZE] {
         for path in [vec![], vec![0; 32]] {
             let one = any(offered, path);
@@ -641,7 +688,7 @@ fn rules(by: u64, every_pair: bool) -> Vec<(u64, Asked)> {
 
     // Pages.
     let call = PageCall { place: 0, page: log.pages[&0].clone(), path: log.path(0, 7) };
-    let good = Given { by, record: stored(by, ID, 50, 7, log.root(7)), call };
+    let good = Given { by, record: Stored { second: any_second(), ..stored(by, ID, 50, 7, log.root(7)) }, call };
     all.extend(
         with_faults(&good, &page_faults(), every_pair).iter().map(|(refusal, one)| (*refusal, ask_page(one.by, &one.record, &one.call))),
     );
@@ -725,33 +772,102 @@ fn offered(timestamp: u64, size: u64, root: [u8; 32], path: &[u8]) -> Offer {
     Offer { log_id: LONG.to_vec(), timestamp, size, root: root.to_vec(), path: path.to_vec() }
 }
 
-/// The cases by hand of request 4, two heads in one millisecond, as its readings list them:
-/// each alone on a record of timestamp 5.
-fn one_millisecond_cases(by: u64) -> Vec<(u64, Asked)> {
+/// The cases by hand of request 4, two heads in one millisecond, as its readings list them,
+/// each alone on a record of timestamp 5: the number, and by request 8 whether the head is kept.
+fn one_millisecond_cases(by: u64) -> Vec<(u64, bool, Offer)> {
     let (a, b, other) = (HELD, node(by, &HELD, &NEXT), [0xb2; 32]);
     let (none, right, wrong) = (&[][..], &NEXT[..], &[0xc2; 32][..]);
-    let cases = [
-        (0, offered(5, 2, a, none)),
-        (7, offered(5, 2, a, right)),
-        (12, offered(5, 2, other, none)),
-        (12, offered(5, 3, b, right)),
-        (12, offered(5, 3, a, none)),
-        (12, offered(5, 3, a, right)),
-        (12, offered(5, 3, a, &[0xc3; 64])),
-        (6, offered(5, 1, other, none)),
-        (12, offered(4, 2, a, none)),
-        (12, offered(4, 2, other, none)),
-        (12, offered(4, 3, b, right)),
-        (0, offered(6, 2, a, none)),
-        (13, offered(6, 2, other, none)),
-        (13, offered(6, 2, other, right)),
-        (0, offered(6, 3, b, right)),
-        (7, offered(6, 3, b, none)),
-        (8, offered(6, 3, b, wrong)),
-        (6, offered(6, 1, other, none)),
-        (10, offered(6, 2, other, &[0xc3; 33])),
+    vec![
+        (0, false, offered(5, 2, a, none)),
+        (7, false, offered(5, 2, a, right)),
+        (12, true, offered(5, 2, other, none)),
+        (12, false, offered(5, 3, b, right)),
+        (12, false, offered(5, 3, a, none)),
+        (12, false, offered(5, 3, a, right)),
+        (12, false, offered(5, 3, a, &[0xc3; 64])),
+        (6, false, offered(5, 1, other, none)),
+        (12, false, offered(4, 2, a, none)),
+        (12, true, offered(4, 2, other, none)),
+        (12, false, offered(4, 3, b, right)),
+        (0, false, offered(6, 2, a, none)),
+        (13, true, offered(6, 2, other, none)),
+        (13, true, offered(6, 2, other, right)),
+        (0, false, offered(6, 3, b, right)),
+        (7, false, offered(6, 3, b, none)),
+        (8, true, offered(6, 3, b, wrong)),
+        (6, false, offered(6, 1, other, none)),
+        (10, false, offered(6, 2, other, &[0xc3; 33])),
+    ]
+}
+
+/// Request 8, the refused head that is kept: lists of calls, each with its number, whether it is
+/// kept, and the number of its hash.
+fn refused_heads(by: u64) -> Vec<Vec<(u64, bool, u64, Call)>> {
+    let (b, other, wrong) = (node(by, &HELD, &NEXT), [0xb2; 32], [0xc2; 32]);
+    let head = |refusal: u64, is_kept: bool, one: Offer| (refusal, is_kept, by, Call::Offer(one));
+    let held = head(0, false, offered(5, 2, HELD, &[]));
+    // The row of its readings.
+    let mut all = vec![vec![
+        held.clone(),
+        head(13, true, offered(6, 2, other, &[])),
+        head(8, true, offered(7, 3, [0xd4; 32], &wrong)),
+        head(12, false, offered(5, 3, other, &[])),
+        head(0, false, offered(6, 2, HELD, &[])),
+    ]];
+    // Each row of the table, before and after another head was kept.
+    let later = head(8, true, offered(9, 3, [0xd4; 32], &wrong));
+    for (refusal, is_kept, one) in one_millisecond_cases(by) {
+        let is_larger = refusal == 0 && one.size > 2;
+        let row = head(refusal, is_kept, one);
+        let list = vec![held.clone(), row.clone(), later.clone(), row];
+        all.push(if is_larger { list[..2].to_vec() } else { list });
+    }
+    // A head that is accepted after it was refused: with a right path; and again when its size is held.
+    all.push(vec![
+        held.clone(),
+        head(8, true, offered(6, 3, b, &wrong)),
+        head(7, false, offered(6, 3, b, &[])),
+        head(0, false, offered(6, 3, b, &NEXT)),
+        head(0, false, offered(6, 3, b, &[])),
+        head(12, true, offered(6, 3, other, &[])),
+        head(0, false, offered(7, 3, b, &[])),
+        head(12, true, offered(6, 3, other, &[])),
+        head(13, true, offered(8, 3, other, &[])),
+        head(13, true, offered(8, 3, other, &[])),
+    ]);
+    all.push(vec![
+        head(0, false, offered(4, 1, NEXT, &[])),
+        head(8, true, offered(6, 2, node(by, &NEXT, &NEXT), &wrong)),
+        head(0, false, offered(5, 2, node(by, &NEXT, &NEXT), &NEXT)),
+        head(0, false, offered(6, 2, node(by, &NEXT, &NEXT), &[])),
+    ]);
+    // Page calls keep nothing, before and after a head was kept; nor does any call by another number.
+    let log = seven(by);
+    let first = Offer { log_id: ID.to_vec(), ..offered(50, 3, log.root(3), &[]) };
+    let next = Offer { root: log.root(7).to_vec(), size: 7, timestamp: 52, path: log.consistency_path(3, 7), ..first.clone() };
+    let fork = Offer { root: other.to_vec(), timestamp: 51, ..first.clone() };
+    let page = PageCall { place: 0, page: log.pages[&0].clone(), path: log.path(0, 3) };
+    let pages = [
+        (0, page.clone()),
+        (8, PageCall { page: log.pages[&2].clone(), ..page.clone() }),
+        (7, PageCall { path: vec![], ..page.clone() }),
+        (6, PageCall { place: 3, ..page.clone() }),
+        (10, PageCall { path: vec![1], ..page.clone() }),
     ];
-    cases.map(|(refusal, one)| (refusal, ask_offer(by, &held_at(by, 5), &one))).into()
+    let pages = || pages.clone().map(|(refusal, page)| (refusal, false, by, Call::Page(page)));
+    let strays =
+        [algorithm::other(by), 1].map(|by| [Call::Offer(fork.clone()), Call::Page(page.clone())].map(|call| (16, false, by, call)));
+    let mut list = vec![(14, false, by, Call::Page(page.clone())), head(0, false, first)];
+    list.extend(pages());
+    list.extend(strays.concat());
+    list.push(head(13, true, fork.clone()));
+    list.extend(pages());
+    list.extend(strays.concat());
+    list.push(head(0, false, next));
+    list.push(head(6, false, fork));
+    list.push((7, false, by, Call::Page(page)));
+    all.push(list);
+    all
 }
 
 #[derive(Clone, Copy, PartialEq)]
@@ -819,7 +935,7 @@ impl Differs {
 }
 
 /// Every way in which an offer can differ from a head held at this timestamp.
-fn grid(by: u64, held: u64) -> Vec<(u64, Asked)> {
+fn grid(by: u64, held: u64) -> Vec<(Differs, Offer)> {
     let mut all = Vec::new();
     for timestamp in [Less, Equal, Greater] {
         for size in [Less, Equal, Greater] {
@@ -830,7 +946,7 @@ fn grid(by: u64, held: u64) -> Vec<(u64, Asked)> {
                 }
                 for (is_root, is_log) in [(true, true), (false, true), (true, false), (false, false)] {
                     let one = Differs { timestamp, size, is_root, path, is_log };
-                    all.extend(one.offer(by, held).map(|offer| (one.number(), ask_offer(by, &held_at(by, held), &offer))));
+                    all.extend(one.offer(by, held).map(|offer| (one, offer)));
                 }
             }
         }
@@ -970,7 +1086,7 @@ fn second_hash_cases(all_wanted: bool) -> Vec<(u64, Asked)> {
         let later = Offer { timestamp: 51, size: 7, root: log.root(7).to_vec(), path: log.consistency_path(3, 7), ..first.clone() };
         let bad = Offer { log_id: vec![], root: vec![], path: vec![1], ..first.clone() };
         let page = PageCall { place: 0, page: log.pages[&0].clone(), path: log.path(0, 3) };
-        let held = stored(by, ID, 50, 3, log.root(3));
+        let held = Stored { second: any_second(), ..stored(by, ID, 50, 3, log.root(3)) };
 
         // An empty record looks at no number of its own, and keeps it where an offer is refused.
         for number in unknown().chain(KNOWN) {
@@ -989,8 +1105,10 @@ fn second_hash_cases(all_wanted: bool) -> Vec<(u64, Asked)> {
         all.extend([(0, ask_offer(by, &held, &later)), (0, ask_offer(by, &held, &first)), (0, ask_page(by, &held, &page))]);
         let far = PageCall { place: 3, path: vec![1], ..page.clone() };
         let another = Offer { log_id: b"a lag".to_vec(), ..later.clone() };
+        let fork = Offer { root: vec![9; 32], ..first.clone() };
+        all.push((12, ask_offer(by, &held, &fork)));
         for other in unknown().chain([algorithm::other(by)]) {
-            all.extend([&first, &later, &another, &bad].map(|offer| (16, ask_offer(other, &held, offer))));
+            all.extend([&first, &later, &another, &bad, &fork].map(|offer| (16, ask_offer(other, &held, offer))));
             all.extend([&page, &far].map(|page| (16, ask_page(other, &held, page))));
             let record = Stored { algorithm: other, ..held.clone() };
             let numbers = [by, other, by ^ 1];
@@ -1032,44 +1150,46 @@ fn cases(requests: &mut Requests) {
         ask_all(requests, ask_list(algorithm::hash, &calls, random));
     }
     lines_that_are_no_request(requests, "dispute 0");
-    for line in [
-        "offer",
-        "offer 0 0 127*00 0 0 0 32*00 x0102 0 1 32*01 x",
-        "offer 0 0 0 127*00 0 0 0 32*00 x0102 0 1 32*01",
-        "offer 0 0 0 127*00 0 0 0 32*00 x0102 0 1 32*01 x x",
-        "offer 0 2 0 127*00 0 0 0 32*00 x0102 0 1 32*01 x",
-        "offer 1 2 0 127*00 0 0 0 32*00 x0102 0 1 32*01 x",
-        "offer 0 x 0 127*00 0 0 0 32*00 x0102 0 1 32*01 x",
-        "offer x 0 0 127*00 0 0 0 32*00 x0102 0 1 32*01 x",
-        "offer 0 0 x 127*00 0 0 0 32*00 x0102 0 1 32*01 x",
-        "offer 0 0 0 126*00 0 0 0 32*00 x0102 0 1 32*01 x",
-        "offer 1 0 0 128*00 0 0 0 32*00 x0102 0 1 32*01 x",
-        "offer 0 0 0 127*00 0 0 0 31*00 x0102 0 1 32*01 x",
-        "offer 0 0 0 127*00 0 0 0 33*00 x0102 0 1 32*01 x",
-        "offer 0 0 0 127*00 x 0 0 32*00 x0102 0 1 32*01 x",
-        "offer 0 0 0 127*00 18446744073709551616 0 0 32*00 x0102 0 1 32*01 x",
-        "offer 0 0 18446744073709551616 127*00 0 0 0 32*00 x0102 0 1 32*01 x",
-        "offer 18446744073709551616 0 0 127*00 0 0 0 32*00 x0102 0 1 32*01 x",
-        "page 0 0 127*00 0 0 0 32*00 0 x x",
-        "page 0 0 0 127*00 0 0 0 32*00 0 x",
-        "page 0 0 0 127*00 0 0 0 32*00 0 x x x",
-        "page 0 2 0 127*00 0 0 0 32*00 0 x x",
-        "page x 0 0 127*00 0 0 0 32*00 0 x x",
-        "page 1 0 0 127*00 0 0 0 32*00 x x x",
-        "dispute x 0 x 1 32*01 x x x 130*00",
-        "dispute 0 x 0 x 1 32*01 x x x",
-        "dispute 0 x 0 x 1 32*01 x x x 130",
-        "dispute 1 x 0 x 1 32*01 x x x 130*00 x",
-        "dispute 0 x x x 1 32*01 x x x 130*00",
-        "dispute x x 0 x 1 32*01 x x x 130*00",
-        "append 0 50*00 0 1 32*01 x",
-        "append 50*00 0 1 32*01",
-        "append 50*00 0 1 32*01 x x",
-        "append 50*00 x 1 32*01 x",
-        "append 50 0 1 32*01 x",
-    ] {
-        requests.line(line.as_bytes());
+    malformed().iter().for_each(|line| requests.line(line.as_bytes()));
+}
+
+/// A right line of each entry.
+const RIGHT: [&str; 4] = [
+    "offer 0 0 0 127*00 0 0 0 32*00 187*00 x0102 0 1 32*01 x",
+    "page 0 0 0 127*00 0 0 0 32*00 187*00 0 x x",
+    "dispute 0 x 0 x 1 32*01 x x x 130*00",
+    "append 50*00 0 1 32*01 x",
+];
+
+/// Lines that are no request, by any number: a word left out or one more, bytes for a number, a number for bytes, one that is
+/// too large, and in a record a flag that is none and bytes of another length.
+fn malformed() -> Vec<String> {
+    let mut all = vec!["offer".to_string(), "page".to_string()];
+    for right in RIGHT {
+        let words: Vec<&str> = right.split(' ').collect();
+        let with = |at: usize, others: &[&str]| [&words[..at], others, &words[at + 1..]].concat().join(" ");
+        for (at, word) in words.iter().enumerate().skip(1) {
+            all.push(with(at, &[]));
+            match word.bytes().all(|digit| digit.is_ascii_digit()) {
+                true => all.extend(["x", "18446744073709551616"].map(|other| with(at, &[other]))),
+                false => all.push(with(at, &["0"])),
+            }
+        }
+        all.extend([" x", " 0"].map(|more| format!("{right}{more}")));
     }
+    for right in &RIGHT[..2] {
+        for (word, others) in [
+            (" 0 0 0 ", [" 0 2 0 ", " 0 18446744073709551615 0 "]),
+            ("127*", ["126*", "128*"]),
+            ("32*", ["31*", "33*"]),
+            ("187*", ["186*", "188*"]),
+        ] {
+            let lines = others.map(|other| right.replacen(word, other, 1));
+            all.extend(lines.iter().map(|line| line.replacen(" 0", " 1", 1)));
+            all.extend(lines);
+        }
+    }
+    all
 }
 
 /// Rules without those about timestamps, sizes and log ids alone, which no hash has a part in.
@@ -1098,11 +1218,8 @@ fn full(requests: &mut Requests) {
         let page = vec![0x61; length];
         let leaf = leaf_hash(algorithm::of(by), &page);
         let record = stored(by, ID, 1, 1, leaf);
-        for asked_by in [by, algorithm::other(by), 1] {
-            let mut words = [vec![number(asked_by)], asked(&record)].concat();
-            words.extend([number(0), repeated(length, 0x61), bytes(&[])]);
-            requests.ask("page", &words);
-        }
+        let call = PageCall { place: 0, page, path: vec![] };
+        ask_all(requests, [by, algorithm::other(by), 1].map(|asked_by| ask_page(asked_by, &record, &call)).into());
         for (second, byte) in [(length, 0x61), (length, 0x62), (length - 1, 0x61)] {
             let mut words = vec![number(by), repeated(length, 0x61), number(0), bytes(&[]), number(1), bytes(&leaf), bytes(&[])];
             words.extend([repeated(second, byte), bytes(&[]), repeated(130, 0)]);
@@ -1131,84 +1248,121 @@ fn random_list(random: &mut Random) -> Vec<Asked> {
 }
 
 /// One request of a list, by its entry.
-fn random_of(entry: &str, random: &mut Random) -> Vec<Word> {
+fn random_of(entry: &str, random: &mut Random) -> Asked {
     loop {
-        let all = random_list(random);
-        let mut all: Vec<Vec<Word>> = all.into_iter().filter(|(name, _)| *name == entry).map(|(_, words)| words).collect();
+        let mut all: Vec<Asked> = random_list(random).into_iter().filter(|(name, _)| *name == entry).collect();
         if let Some(last) = all.len().checked_sub(1) {
             return all.swap_remove(random.between(last as u64 / 2, last as u64) as usize);
         }
     }
 }
 
+/// The words of a request as they are read.
+fn read((name, words): &Asked) -> Vec<Word> {
+    let mut line = Vec::new();
+    write_line(Some(name), words, &mut line);
+    line.pop();
+    read_line(&line).unwrap().1
+}
+
 /// The record of a request, with none, one or two fields of any value; at times the number of
-/// the call too.
-fn random_record(words: &mut [Word], random: &mut Random) {
+/// the call too, and at times a second place of any value.
+fn random_record<T>(one: &mut Given<T>, random: &mut Random) {
+    let record = &mut one.record;
     for _ in 0..random.below(3) {
         let any = random.draw() >> random.below(64);
         match random.below(10) {
-            0 => words[1] = number(random.below(2)),
-            1 => words[2] = number(algorithm::mostly(algorithm::some(random), random)),
-            2 => words[3] = bytes(&random.bytes(LONGEST_ID)),
-            3 => words[4] = number(*random.pick(&[0, 1, 2, 3, 126, 127, 128, 1 << 63, u64::MAX])),
-            4 => words[4] = number(any),
-            5 => words[5] = number(any),
-            6 => words[6] = number(*random.pick(&[0, 1, 2, 1 << 32, (1 << 32) + 1, LARGEST_SIZE])),
-            7 => words[6] = number(any),
-            8 => words[7] = bytes(&random.hash()),
+            0 => record.held = random.one_in(2),
+            1 => record.algorithm = algorithm::mostly(algorithm::some(random), random),
+            2 => record.id.fill_with(|| random.byte()),
+            3 => record.id_length = *random.pick(&[0, 1, 2, 3, 126, 127, 128, 1 << 63, u64::MAX]),
+            4 => record.id_length = any,
+            5 => record.timestamp = any,
+            6 => record.size = *random.pick(&[0, 1, 2, 1 << 32, (1 << 32) + 1, LARGEST_SIZE]),
+            7 => record.size = any,
+            8 => record.root = random.hash(),
             _ => {
                 let by = algorithm::mostly(algorithm::some(random), random);
-                (words[0], words[2]) = (number(by), number(by));
+                (one.by, record.algorithm) = (by, by);
             }
         }
     }
+    if random.one_in(3) {
+        record.second = random_second(record, random);
+    }
 }
 
-/// At times the record has the timestamp that is offered, or one beside it; with the
-/// same timestamp it may hold the very head, or one of that size with another root.
+/// Nothing; any bytes; the record's own with another number or length; the held head, or one of its size with another root.
+fn random_second(record: &Stored, random: &mut Random) -> Second {
+    let number = *random.pick(&[0, 1, 7, 8, 12, 13, u32::MAX]);
+    let second = record.second.clone();
+    let of_held = Second { number, id: record.id, id_length: record.id_length, size: record.size, root: record.root, ..second.clone() };
+    match random.below(6) {
+        0 => Second::EMPTY,
+        1 => read_second(&random.bytes(SECOND)).unwrap(),
+        2 => Second { number, ..second },
+        3 => Second { number, id_length: *random.pick(&[0, 1, 126, 127, 128, 1 << 63, u64::MAX]), ..second },
+        4 => Second { timestamp: record.timestamp, ..of_held },
+        _ => Second { timestamp: record.timestamp.saturating_add(random.below(3)), root: random.hash(), ..of_held },
+    }
+}
+
+/// At times the record has the timestamp that is offered, or one beside it; then it may
+/// hold the very head, or one of that size with another root. At times the offer is
+/// spoilt, and at times its head stands in the second place.
 fn random_offer(random: &mut Random) -> Vec<Word> {
-    let mut words = random_of("offer", random);
-    random_record(&mut words, random);
+    let mut one = read_offer(&read(&random_of("offer", random))).unwrap();
+    random_record(&mut one, random);
+    let Given { by, mut record, mut call } = one;
+    match random.below(14) {
+        0 => spoil(&mut call.log_id, random),
+        1 => spoil(&mut call.root, random),
+        2 => spoil(&mut call.path, random),
+        3 => call.size = *random.pick(&[0, 0, 1, 2]),
+        _ => (),
+    }
+    let root: Option<Hash> = call.root[..].try_into().ok();
     if random.one_in(3) {
-        words[5] = words[9].clone();
-        match random.below(4) {
-            0 if words[11].as_hash().is_some() => (words[6], words[7]) = (words[10].clone(), words[11].clone()),
-            1 => (words[6], words[7]) = (words[10].clone(), bytes(&random.hash())),
-            2 => words[5] = number(words[9].as_number().unwrap() ^ 1),
+        record.timestamp = call.timestamp;
+        match (random.below(6), root) {
+            (0 | 1, Some(root)) => {
+                (record.size, record.root) = (call.size, root);
+                record.timestamp = record.timestamp.saturating_sub(random.below(2));
+            }
+            (2, _) => (record.size, record.root) = (call.size, random.hash()),
+            (3, _) => (record.size, record.root, record.timestamp) = (call.size, random.hash(), call.timestamp.saturating_add(1)),
+            (4, _) => record.timestamp ^= 1,
             _ => (),
         }
     }
-    words
+    if let (true, Some(root)) = (random.one_in(6), root) {
+        let number = *random.pick(&[8, 12, 13]);
+        let Stored { id, id_length, .. } = record;
+        record.second = Second { number, id, id_length, timestamp: call.timestamp, size: call.size, root };
+    }
+    ask_offer(by, &record, &call).1
 }
 
 fn random_page(random: &mut Random) -> Vec<Word> {
-    let mut words = random_of("page", random);
-    random_record(&mut words, random);
-    words
+    let mut one = read_page(&read(&random_of("page", random))).unwrap();
+    random_record(&mut one, random);
+    ask_page(one.by, &one.record, &one.call).1
 }
 
 fn random_dispute(random: &mut Random) -> Vec<Word> {
-    random_of("dispute", random)
+    random_of("dispute", random).1
 }
 
 fn random_append(random: &mut Random) -> Vec<Word> {
-    random_of("append", random)
+    random_of("append", random).1
 }
 
 #[cfg(test)]
 mod tests {
     use super::*;
     use crate::algorithm::weak;
-    use crate::words::{read_line, write_line};
+    use crate::requests::{self, LAYERS};
     use std::collections::BTreeMap;
-
-    /// The words of a request as they are read.
-    fn read((name, words): &Asked) -> Vec<Word> {
-        let mut line = Vec::new();
-        write_line(Some(name), words, &mut line);
-        line.pop();
-        read_line(&line).unwrap().1
-    }
 
     fn answer(hashes: Hashes, asked: &Asked) -> Vec<Word> {
         let words = read(asked);
@@ -1229,11 +1383,14 @@ mod tests {
             assert_eq!(answer[0], number(refusal), "{at}: {asked:?}");
             let words = read(&asked);
             match asked.0 {
-                "offer" if refusal == 0 => {
-                    let id = words[8].as_bytes().unwrap();
-                    let padded: Vec<u8> = id.iter().copied().chain([0; LONGEST_ID]).take(LONGEST_ID).collect();
-                    let record = [number(1), words[0].clone(), bytes(&padded), number(id.len() as u64)];
-                    assert_eq!(answer[1..], [&record[..], &words[9..12]].concat());
+                "offer" => {
+                    let given = read_offer(&words).unwrap();
+                    let is_kept = match refusal {
+                        8 | 13 => true,
+                        12 => given.call.size == given.record.size && given.call.root != given.record.root,
+                        _ => false,
+                    };
+                    assert_eq!(answer, answered(refusal, &after(&given, refusal, is_kept)), "{at}: {asked:?}");
                 }
                 "append" => {
                     let used = words[1].as_number().unwrap();
@@ -1245,9 +1402,70 @@ mod tests {
                     assert_eq!(answer[1], number((refusal == 0) as u64));
                     assert_eq!(answer[2], words[9]);
                 }
-                // A refusal, and every page call: the record as it was.
-                _ => assert_eq!(answer[1..], words[1..8]),
+                // Every page call: the record as it was.
+                _ => assert_eq!(answer, answered(refusal, &read_page(&words).unwrap().record)),
             }
+        }
+    }
+
+    /// The record after an offer: an accepted head in the first place, one that is kept in the second. Zeros follow the log id.
+    fn after(Given { by, record, call }: &Given<Offer>, refusal: u64, is_kept: bool) -> Stored {
+        if refusal > 0 && !is_kept {
+            return record.clone();
+        }
+        let id: Vec<u8> = call.log_id.iter().copied().chain([0; LONGEST_ID]).take(LONGEST_ID).collect();
+        let (id, id_length) = (id[..].try_into().unwrap(), call.log_id.len() as u64);
+        let (timestamp, size, root) = (call.timestamp, call.size, call.root[..].try_into().unwrap());
+        let second = Second { number: refusal as u32, id, id_length, timestamp, size, root };
+        match is_kept {
+            true => Stored { second, ..record.clone() },
+            false => Stored { held: true, algorithm: *by, id, id_length, timestamp, size, root, second: record.second.clone() },
+        }
+    }
+
+    /// Whether the head is kept: of two roots for one size each is, and a larger one, at a later
+    /// time, where as many nodes as there must be do not yield both roots.
+    fn is_kept(how: Differs) -> bool {
+        how.is_log
+            && match how.size {
+                Less => false,
+                Equal => !how.is_root,
+                Greater => how.timestamp == Greater && how.path != Path::Empty && (how.is_root || how.path == Path::Wrong),
+            }
+    }
+
+    /// The tables of requests 4 and 8, each row alone and each list in a row; and every way to differ, over every second place.
+    #[test]
+    fn heads_are_kept() {
+        let check = |given: &Given<Offer>, refusal: u64, is_kept: bool| {
+            let (number, found) = given.record.offer(algorithm::hash, given.by, &given.call);
+            assert_eq!((number, &found), (refusal, &after(given, refusal, is_kept)));
+            found
+        };
+        for by in KNOWN {
+            let over = |second: &Second, held: u64| Stored { second: second.clone(), ..held_at(by, held) };
+            for second in seconds(LONG) {
+                for (refusal, is_kept, call) in one_millisecond_cases(by) {
+                    check(&Given { by, record: over(&second, 5), call }, refusal, is_kept);
+                }
+                for held in [5, 0, u64::MAX] {
+                    for (how, call) in grid(by, held) {
+                        check(&Given { by, record: over(&second, held), call }, how.number(), is_kept(how));
+                    }
+                }
+            }
+            let mut lengths = Vec::new();
+            for list in refused_heads(by) {
+                let mut record = Stored::EMPTY;
+                for (refusal, is_kept, by, call) in &list {
+                    match call {
+                        Call::Offer(one) => record = check(&Given { by: *by, record, call: one.clone() }, *refusal, *is_kept),
+                        Call::Page(one) => assert_eq!(record.page(algorithm::hash, *by, one), *refusal),
+                    }
+                }
+                lengths.push(list.len());
+            }
+            assert_eq!((lengths.len(), lengths.iter().sum()), (23, 5 + 18 * 4 + 2 + 10 + 4 + 24));
         }
     }
 
@@ -1257,15 +1475,48 @@ mod tests {
         for (held, expected) in [(5, 84), (0, 56), (u64::MAX, 56)] {
             let all = grid(SM3, held);
             assert_eq!(all.len(), expected);
-            let mut lines: Vec<String> = all.iter().map(|(_, asked)| format!("{asked:?}")).collect();
+            let mut lines: Vec<String> = all.iter().map(|(_, offer)| format!("{offer:?}")).collect();
             lines.sort();
             lines.dedup();
             assert_eq!(lines.len(), expected);
-            let mut numbers: Vec<u64> = all.iter().map(|(refusal, _)| *refusal).collect();
+            let mut numbers: Vec<u64> = all.iter().map(|(how, _)| how.number()).collect();
             numbers.sort();
             numbers.dedup();
             let met = if held == u64::MAX { vec![0, 6, 7, 11, 12] } else { vec![0, 6, 7, 8, 11, 12, 13] };
             assert_eq!(numbers, met);
+            let kept: Vec<u64> = all.iter().filter(|(how, _)| is_kept(*how)).map(|(how, _)| how.number()).collect();
+            let count = |number: u64| kept.iter().filter(|kept| **kept == number).count();
+            let expected = match held {
+                0 => [3, 2, 2],
+                u64::MAX => [0, 4, 0],
+                _ => [3, 4, 2],
+            };
+            assert_eq!([8, 12, 13].map(count), expected);
+        }
+    }
+
+    /// The second place in bytes, each of its fields at its place.
+    #[test]
+    fn second_places_in_bytes() {
+        let bytes: Vec<u8> = (1..=SECOND as u8).collect();
+        let second = read_second(&bytes).unwrap();
+        assert_eq!((second.number, second.id_length), (0x01020304, 0x05060708090a0b0c));
+        assert_eq!((second.timestamp, second.size), (0x0d0e0f1011121314, 0x15161718191a1b1c));
+        assert_eq!((second.id[0], second.id[126], second.root[0], second.root[31]), (29, 155, 156, 187));
+        assert_eq!((second_bytes(&second), SECOND), (bytes.clone(), 187));
+        assert_eq!((read_second(&bytes[1..]), read_second(&[&bytes[..], &[0]].concat())), (None, None));
+        assert_eq!(read_second(&[0; SECOND]), Some(Second::EMPTY));
+    }
+
+    #[test]
+    fn malformed_lines_are_no_request() {
+        assert!(RIGHT.iter().all(|line| requests::answer(LAYERS, line.as_bytes()) != b"?\n"));
+        let all = malformed();
+        for line in &all {
+            assert_eq!(requests::answer(LAYERS, line.as_bytes()), b"?\n", "{line}");
+        }
+        for line in ["offer 0 0 0 127*00 0 0 0 32*00 x0102 0 1 32*01 x", "page 1 0 0 127*00 0 0 0 32*00 188*00 0 x x"] {
+            assert!(all.iter().any(|other| other == line));
         }
     }
 
@@ -1295,67 +1546,135 @@ mod tests {
         }
     }
 
-    /// An offer to a head that is held, by its number and its words: the timestamp, size
-    /// and root held against those offered.
-    fn against_held(words: &[Word], refusal: u64) -> Option<&'static str> {
-        if words[1] != number(1) {
-            return None;
-        }
-        let order = |held: usize, offered: usize| words[offered].as_number().cmp(&words[held].as_number());
-        match (refusal, order(5, 9), order(6, 10), words[7] == words[11]) {
-            (12, Less, _, _) => Some("12, earlier"),
-            (12, Equal, Greater, false) => Some("12, equal, a larger size"),
-            (12, Equal, Greater, true) => Some("12, equal, a larger size, the held root"),
-            (12, Equal, Equal, false) => Some("12, equal, another root"),
-            (0, Equal, Equal, true) => Some("0, equal"),
-            (0, Greater, Equal, true) => Some("0, later, the same size"),
-            (0, Greater, Greater, _) => Some("0, later, a larger size"),
-            (7, Equal, Equal, true) => Some("7, equal"),
-            (6, Equal, Less, _) => Some("6, equal"),
-            (13, Greater, Equal, false) => Some("13, later"),
-            (0 | 12 | 13, _, _, _) => Some("none of these"),
-            _ => None,
+    /// What an offer to a head that is held is beside that head.
+    fn against_held(Given { record, call, .. }: &Given<Offer>, refusal: u64) -> &'static str {
+        let is_root = call.root == record.root;
+        match (refusal, call.timestamp.cmp(&record.timestamp), call.size.cmp(&record.size), is_root) {
+            (12, Less, Equal, false) => "12, earlier, another root",
+            (12, Equal, Equal, false) => "12, equal, another root",
+            (13, Greater, Equal, false) => "13",
+            (8, Greater, Greater, _) => "8",
+            (12, Less, Equal, true) => "12, earlier, the held size and root",
+            (12, Less, Greater, _) => "12, earlier, a larger size",
+            (12, Equal, Greater, false) => "12, equal, a larger size",
+            (12, Equal, Greater, true) => "12, equal, a larger size, the held root",
+            (0, Equal, Equal, true) => "0, equal",
+            (0, Greater, Equal, true) => "0, later, the same size",
+            (0, Greater, Greater, _) => "0, later, a larger size",
+            (7, Equal, Equal, true) => "7, equal",
+            (7, Greater, Equal, true) => "7, later, the same size",
+            (7, Greater, Greater, _) => "7, later, a larger size",
+            (6, Equal, Less, _) => "6, equal",
+            (6, _, _, _) => "6",
+            (5, _, _, _) => "5",
+            (10, _, _, _) => "10",
+            (11, _, _, _) => "11",
+            (16, _, _, _) => "16",
+            _ => panic!("{refusal} of {call:?} over {record:?}"),
         }
     }
 
-    const AGAINST_HELD: [&str; 10] = [
+    /// These are kept, whether the second place is empty or not.
+    const KEPT: [&str; 4] = ["12, earlier, another root", "12, equal, another root", "13", "8"];
+
+    /// These leave it as it was.
+    const LEFT: [&str; 16] = [
         "0, equal",
         "0, later, a larger size",
         "0, later, the same size",
-        "12, earlier",
+        "10",
+        "11",
+        "12, earlier, a larger size",
+        "12, earlier, the held size and root",
         "12, equal, a larger size",
         "12, equal, a larger size, the held root",
-        "12, equal, another root",
-        "13, later",
+        "16",
+        "5",
+        "6",
         "6, equal",
         "7, equal",
+        "7, later, a larger size",
+        "7, later, the same size",
     ];
 
-    /// Each is met ten times in lists, and in random offers to records of any value.
+    /// The kinds of an offer or a page call and of the second place before it. The answer is held against
+    /// the kind, and against that of the same call with another second place.
+    fn second_place_kinds(hashes: Hashes, asked: &Asked, other: &Second) -> Vec<String> {
+        let words = read(asked);
+        let mut kinds = Vec::new();
+        let (kind, record, (refusal, found), instead) = match asked.0 {
+            "offer" => {
+                let given = read_offer(&words).unwrap();
+                let Given { by, record, call } = &given;
+                let (refusal, found) = record.offer(hashes, *by, call);
+                let instead = Stored { second: other.clone(), ..record.clone() }.offer(hashes, *by, call);
+                let kind = if record.held { against_held(&given, refusal) } else { "no head" };
+                assert_eq!(found, after(&given, refusal, KEPT.contains(&kind)));
+                let Second { number, timestamp, size, root, .. } = record.second;
+                if number > 0 && (timestamp, size, &root[..]) == (call.timestamp, call.size, &call.root) {
+                    kinds.push(format!("the kept head again, {}", if refusal == 0 { "accepted" } else { "refused" }));
+                }
+                let kind = if record.held { kind.to_string() } else { format!("{refusal}, {kind}") };
+                (kind, given.record, (refusal, found), instead)
+            }
+            "page" => {
+                let Given { by, record, call } = read_page(&words).unwrap();
+                let refusal = record.page(hashes, by, &call);
+                let other = Stored { second: other.clone(), ..record.clone() };
+                (format!("page, {refusal}"), record.clone(), (refusal, record), (other.page(hashes, by, &call), other))
+            }
+            _ => return kinds,
+        };
+        assert_eq!(answer(hashes, asked), answered(refusal, &found));
+        let second = if KEPT.contains(&&kind[..]) { found.second.clone() } else { other.clone() };
+        assert_eq!(instead, (refusal, Stored { second, ..found }));
+        kinds.push(format!("{kind}, over {}", if record.second.number == 0 { "nothing" } else { "another" }));
+        kinds.push(format!("number {}", record.second.number));
+        if record.second.id_length > LONGEST_ID as u64 {
+            kinds.push("a log id past its end".to_string());
+        }
+        kinds
+    }
+
+    /// Each is met ten times in lists, and in random requests to records of any value: every kind that is
+    /// kept over an empty second place and over a filled one, every other over a filled one.
     #[test]
-    fn every_offer_to_a_held_head_is_met() {
+    fn every_second_place_is_met() {
         let random = &mut Random::new(15);
-        let mut counts: [BTreeMap<&str, usize>; 3] = Default::default();
-        for _ in 0..100 {
-            for (hashes, counts) in [algorithm::hash as Hashes, weak].into_iter().zip(&mut counts) {
+        let mut counts: [BTreeMap<String, usize>; 3] = Default::default();
+        let mut count = |at: usize, hashes: Hashes, asked: &Asked, random: &mut Random| {
+            let other = read_second(&random.bytes(SECOND)).unwrap();
+            for kind in second_place_kinds(hashes, asked, &other) {
+                *counts[at].entry(kind).or_default() += 1;
+            }
+        };
+        for _ in 0..300 {
+            for (at, hashes) in [algorithm::hash as Hashes, weak].into_iter().enumerate() {
                 for kind in KINDS {
-                    let all = some_list(hashes, kind, 20, random);
-                    let offers = all.iter().filter(|asked| asked.0 == "offer");
-                    for kind in offers.filter_map(|asked| against_held(&read(asked), answer(hashes, asked)[0].as_number().unwrap())) {
-                        *counts.entry(kind).or_default() += 1;
-                    }
+                    some_list(hashes, kind, 20, random).iter().for_each(|asked| count(at, hashes, asked, random));
                 }
             }
         }
-        for _ in 0..3000 {
-            let asked = ("offer", random_offer(random));
-            let refusal = answer(algorithm::hash, &asked)[0].as_number().unwrap();
-            against_held(&read(&asked), refusal).into_iter().for_each(|kind| *counts[2].entry(kind).or_default() += 1);
+        for _ in 0..8000 {
+            let (offer, page) = (random_offer(random), random_page(random));
+            count(2, algorithm::hash, &("offer", offer), random);
+            count(2, algorithm::hash, &("page", page), random);
         }
+        counts.iter_mut().for_each(|counts| counts.retain(|_, count| *count >= 10));
         println!("{counts:?}");
-        for counts in counts {
-            assert_eq!(counts.keys().copied().collect::<Vec<_>>(), AGAINST_HELD);
-            assert!(counts.values().all(|count| *count >= 10), "{counts:?}");
+        let kept = KEPT.iter().flat_map(|kind| ["nothing", "another"].map(|over| format!("{kind}, over {over}")));
+        let left = LEFT.iter().map(|kind| format!("{kind}, over another"));
+        let pages = [0, 6, 7, 8, 10, 16].map(|refusal| format!("page, {refusal}, over another"));
+        let again = ["accepted", "refused"].map(|answer| format!("the kept head again, {answer}"));
+        let wanted: Vec<String> = kept.chain(left).chain(pages).chain(again).collect();
+        // In lists the second place is empty where no head is held.
+        let no_head = [0, 5, 6, 7, 10, 16].map(|refusal| format!("{refusal}, no head, over another"));
+        let numbers = [0, 1, 7, 8, 12, 13, u32::MAX].map(|number| format!("number {number}"));
+        let others = ["page, 14, over another", "a log id past its end"].map(String::from);
+        let of_no_list: Vec<String> = no_head.into_iter().chain(numbers).chain(others).collect();
+        for (wanted, counts) in [(&wanted, &counts[0]), (&wanted, &counts[1]), (&wanted, &counts[2]), (&of_no_list, &counts[2])] {
+            let missed: Vec<&String> = wanted.iter().filter(|kind| !counts.contains_key(*kind)).collect();
+            assert!(missed.is_empty(), "{missed:?}");
         }
     }
 
@@ -1364,7 +1683,7 @@ mod tests {
     #[test]
     fn every_outcome_is_met() {
         let mut counts = Counts::new();
-        lists(algorithm::hash, 100, 0, &mut counts);
+        lists(algorithm::hash, 150, 0, &mut counts);
         println!("SHA-256 and SM3: {counts:?}");
         let offers = [0, 5, 6, 7, 8, 10, 11, 12, 13, 16].map(|refusal| ("offer", refusal, 0));
         let pages = [0, 6, 7, 8, 10, 14, 16].map(|refusal| ("page", refusal, 0));
@@ -1376,7 +1695,7 @@ mod tests {
         assert!(counts.values().all(|count| *count >= 10), "{counts:?}");
 
         counts.clear();
-        lists(weak, 100, 60, &mut counts);
+        lists(weak, 150, 60, &mut counts);
         println!("weak: {counts:?}");
         expected.extend([("dispute", 0, 2), ("dispute", 0, 3)]);
         expected.sort();

@@ -45,6 +45,28 @@ fn grown(of: growing::Grown) -> (u64, reference::growing::Growing) {
     (of.number.into(), tree_of(of.after))
 }
 
+fn evidence(of: &reference::auditor::Second) -> auditor::Evidence {
+    auditor::Evidence {
+        number: of.number,
+        id: of.id,
+        idlen: of.id_length as usize,
+        timestamp: of.timestamp,
+        size: of.size,
+        root: of.root,
+    }
+}
+
+fn second(of: auditor::Evidence) -> reference::auditor::Second {
+    reference::auditor::Second {
+        number: of.number,
+        id: of.id,
+        id_length: of.idlen as u64,
+        timestamp: of.timestamp,
+        size: of.size,
+        root: of.root,
+    }
+}
+
 fn record(of: &reference::auditor::Stored) -> auditor::Record {
     auditor::Record {
         held: of.held,
@@ -54,6 +76,7 @@ fn record(of: &reference::auditor::Stored) -> auditor::Record {
         timestamp: of.timestamp,
         size: of.size,
         root: of.root,
+        evidence: evidence(&of.second),
     }
 }
 
@@ -66,6 +89,7 @@ fn stored(of: auditor::Record) -> reference::auditor::Stored {
         timestamp: of.timestamp,
         size: of.size,
         root: of.root,
+        second: second(of.evidence),
     }
 }
 

@@ -5,7 +5,7 @@ use crate::code::{ways, Code, Step, Two, Wrote};
 use crate::forge::LONGEST;
 use crate::given::hashes;
 use reference::algorithm::{KNOWN, REFUSED, SHA256, SM3};
-use reference::auditor::{self, Dispute, Offer, PageCall, Settled, Stored};
+use reference::auditor::{self, Dispute, Offer, PageCall, Second, Settled, Stored};
 use reference::carry::{self, consistency_places, full_subtree, inclusion_places, parts, Carried, Compared, Known, Leaves, PAIR};
 use reference::growing::{self, Call, Growing, Grown, LEVELS};
 use reference::item::LONGEST_ITEM;
@@ -805,10 +805,30 @@ impl<'a> Hold<'a> {
 
     pub fn offer(&mut self, algorithm: u64, record: &Stored, one: &Offer) -> (u64, Stored) {
         let (number, after) = record.offer(hashes, algorithm, one);
-        assert!(number == 0 || after == *record, "a refusal changes no record");
+        // Over another second place it answers alike; where the two are one after it, it was written.
+        let second = Second { number: !record.second.number, ..record.second.clone() };
+        let beside = Stored { second: second.clone(), ..record.clone() };
+        let expected = beside.offer(hashes, algorithm, one);
+        let is_kept = expected.1.second == after.second;
+        assert_eq!(expected, (number, Stored { second: if is_kept { after.second.clone() } else { second }, ..after.clone() }));
+        assert!(
+            number == 0 || after == Stored { second: after.second.clone(), ..record.clone() },
+            "a refusal changes the second place alone"
+        );
+        assert!(is_kept || after.second == record.second);
         let code = self.code;
         let found = tried(|| code.offer(algorithm, record, one));
         self.under(algorithm);
+        self.same("offer", expected, tried(|| code.offer(algorithm, &beside, one)), (algorithm, &beside, one));
+        if is_kept {
+            let over = if record.second.number == 0 { "nothing" } else { "another" };
+            self.kind("offer", format!("kept, {}, over {over}", beside_held(record, one, number).unwrap_or("8")));
+        } else {
+            self.leaves_what_is_kept("offer", record, number);
+        }
+        if record.held && number == 0 && (one.timestamp, one.size, &one.root[..]) == kept(record) {
+            self.kind("offer", "0 for the head that is kept");
+        }
         let held = if record.held { "a head" } else { "no head" };
         self.kind("offer", format!("{number} where {held} is held"));
         if one.size == LARGEST_SIZE && number == 0 {
@@ -835,8 +855,27 @@ impl<'a> Hold<'a> {
             _ => self.verdict("page", number, record.size),
         }
         self.beside_record("page", algorithm, record, number);
+        self.leaves_what_is_kept("page", record, number);
         self.same("page", (number, record.clone()), found, (algorithm, record, one.place, one.page.len(), &one.path));
         number
+    }
+
+    /// What a list of calls leaves in the second place.
+    pub fn list_left(&mut self, record: &Stored) {
+        self.under(record.algorithm);
+        let what = match record.second.number {
+            0 => "nothing".to_string(),
+            number => format!("a head refused with {number}"),
+        };
+        self.kind("list", format!("{what} is kept at its end"));
+    }
+
+    /// A call that leaves the second place as it was, where that is filled.
+    fn leaves_what_is_kept(&mut self, entry: &str, record: &Stored, number: u64) {
+        if record.second.number > 0 {
+            let held = if record.held { "" } else { ", where no head is held" };
+            self.kind(entry, format!("{number} leaves what is kept{held}"));
+        }
     }
 
     /// How the number of a call stands to the record's.
@@ -896,7 +935,9 @@ fn beside_held(record: &Stored, one: &Offer, number: u64) -> Option<&'static str
     }
     let later = || Offer { timestamp: one.timestamp.saturating_add(1), ..one.clone() };
     match (number, one.timestamp.cmp(&record.timestamp)) {
-        (12, Less) => Some("12 at an earlier timestamp"),
+        (12, Less) if one.size > record.size => Some("12 at an earlier timestamp, a larger size"),
+        (12, Less) if one.root == record.root => Some("12 at an earlier timestamp, the held size and root"),
+        (12, Less) => Some("12 at an earlier timestamp, another root"),
         (12, Equal) if one.size == record.size => Some("12 at an equal timestamp, another root"),
         (12, Equal) if record.offer(hashes, record.algorithm, &later()).0 == 0 => {
             Some("12 at an equal timestamp, a larger size, the path right")
@@ -908,6 +949,12 @@ fn beside_held(record: &Stored, one: &Offer, number: u64) -> Option<&'static str
         (13, Greater) => Some("13 at a later timestamp"),
         _ => None,
     }
+}
+
+/// Timestamp, size and root in the second place, where it is filled.
+fn kept(record: &Stored) -> (u64, u64, &[u8]) {
+    let second = &record.second;
+    (second.timestamp, second.size, if second.number > 0 { &second.root } else { &[] })
 }
 
 /// The strings differ and have one value, by the hash of the call.

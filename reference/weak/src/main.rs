@@ -20,7 +20,7 @@ mod variants {
 use code::{Code, COMPARED};
 use hold::Hold;
 use reference::algorithm::{self, mostly, some_unknown, KNOWN};
-use reference::auditor::{disputes, Call, Dispute, Offer, PageCall, Stored};
+use reference::auditor::{disputes, Call, Dispute, Offer, PageCall, Second, Stored};
 use reference::carry::PAIR;
 use reference::item::LONGEST_ITEM;
 use reference::proofs::next_to_powers;
@@ -151,6 +151,7 @@ fn list_round(hold: &mut Hold, random: &mut Random) {
         };
         accepted.push(number == 0);
     }
+    hold.list_left(&record);
     let all = disputes(&calls, &accepted);
     for (by, one) in all.iter().take(12) {
         // Every accepted call went by the number that the record holds.
@@ -240,6 +241,7 @@ fn record_round(hold: &mut Hold, random: &mut Random) {
         8 => offer.root = record.root.to_vec(),
         _ => (),
     }
+    record.second = some_second(&record, &offer, random);
     let [offered, asked] = [(); 2].map(|()| mostly(if random.one_in(2) { record.algorithm } else { algorithm }, random));
     hold.offer(offered, &record, &offer);
     let mut page = PageCall { place: one.place, page: random.bytes(1), path: one.path };
@@ -247,6 +249,20 @@ fn record_round(hold: &mut Hold, random: &mut Random) {
         spoil(&mut page.path, random);
     }
     hold.ask(asked, &record, &page);
+}
+
+/// Nothing; the very head that is offered; one of the held size; any.
+fn some_second(record: &Stored, offer: &Offer, random: &mut Random) -> Second {
+    let number = *random.pick(&[1, 7, 8, 12, 13, u32::MAX]);
+    let root = offer.root[..].try_into().unwrap_or(record.root);
+    let Stored { id, id_length, .. } = *record;
+    let (timestamp, size) = (random.below(5), random.draw() >> random.below(64));
+    match random.below(4) {
+        0 => Second::EMPTY,
+        1 => Second { number, id, id_length, timestamp: offer.timestamp, size: offer.size, root },
+        2 => Second { number, id, id_length, timestamp, size: record.size, root: random.hash() },
+        _ => Second { number: number & random.draw() as u32, id: [random.byte(); 127], id_length: size, timestamp, size, root },
+    }
 }
 
 /// One size, by one hash: of each verdict what is accepted and no place, of carrying a path's room and a byte fewer, and a head of that size
@@ -290,7 +306,8 @@ fn long_pages(hold: &mut Hold, random: &mut Random) {
     let call = |page: &[u8]| PageCall { place: 0, page: page.to_vec(), path: vec![] };
     for algorithm in KNOWN {
         let root = given::hashes(algorithm).unwrap()(&[]);
-        let record = Stored { held: true, algorithm, size: 1, root, ..Stored::EMPTY };
+        let second = Second { number: 8, size: 2, ..Second::EMPTY };
+        let record = Stored { held: true, algorithm, size: 1, root, second, ..Stored::EMPTY };
         for page in [&most, &over] {
             hold.ask(algorithm, &record, &call(page));
             hold.ask(algorithm, &Stored::EMPTY, &call(page));
@@ -413,7 +430,7 @@ fn main() {
         tally.count(COMPARED.contains(name), || format!("public, and not compared: {name}"));
     }
     translation(&mut tally);
-    let is_full = WANTED.lines().count() > 330 && variants::CODES.len() > 84;
+    let is_full = WANTED.lines().count() > 365 && variants::CODES.len() > 108;
     tally.count(is_full, || "kinds or wrong programs are gone".to_string());
 
     let hold = rounds(variants::CODES[0].1, seed, count, false);

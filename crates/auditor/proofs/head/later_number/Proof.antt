@@ -63,6 +63,6 @@ later-number-spec =
     returns-4
     (λ c κs. search needs)
     returns-5
-    (λ c. search needs)
+    (λ c. search (needs, c .before .before .before .before .before .before .before .before .before .before .before .before .before .before .before .good .1 .0))
     (λ c κs. search needs)
     returns-6)
