@@ -11,4 +11,5 @@ pub mod Keeping
 pub mod Examples
 pub mod Claims
 pub mod Evidence
+pub mod Rows
 pub mod Timestamps

@@ -20,6 +20,7 @@ ghost use Rattle.auditor.specs.Demand.{Demand3, WhateverGiven, TwoAudito
 ghost use Rattle.auditor.specs.Keeping.{JournalJoins, AppendedReadsBack, LongEnough, AsKept};
 ghost use Rattle.auditor.specs.Examples.{Disputed};
 ghost use Rattle.auditor.specs.Timestamps.{OneTimestamp, HeldAgain, OnlyStricter};
+ghost use Rattle.auditor.specs.Rows.{RowsHold};
 ghost use Rattle.auditor.specs.Evidence.{NothingDepends, OneException, LatestRefused, KeptIsEvidence, HonestLeavesNone};
 ghost use Rattle.auditor.specs.Claims.{HeldIsAccepted, RefusedAddNothing, SixteenFirst, NeverBack, HonestLog, GrownHeads};
 use bytes::no_id;
@@ -115,6 +116,7 @@ pub fn claims()
     ensures latest_refused { λ _. ⌜ LatestRefused ⌝ }
     ensures kept_is_evidence { λ _. ⌜ KeptIsEvidence ⌝ }
     ensures honest_leaves_none { λ _. ⌜ HonestLeavesNone ⌝ }
+    ensures rows_hold { λ _. ⌜ RowsHold ⌝ }
     ensures disputed { λ _. ⌜ Disputed ⌝ }
     ensures honest_log { λ _. ⌜ HonestLog ⌝ }
     ensures grown_heads { λ _. ⌜ GrownHeads ⌝ }
