@@ -4,10 +4,12 @@
 A crate is read as pieces: each declaration of specs/ and proofs/, with its signature, its clauses and the head of its section; each item of src/, a
 function's contract and its body apart. A piece leads to every piece of the crate that a word of it may name: one of its own file, one that a `use` line
 of the file brings, in src/ any item that is so spelled. A name that stands for what Rattle makes of a type or a function leads to that type, to that
-contract or, as in the function's own proof, to its body too. Nothing else leads to a body.
+contract or, as in the function's own proof, to its body too. Nothing else leads to a body. What Rattle proves by itself of a function, at a place of src/,
+is of its contract and body, and so of its invariants; its answers count too.
 
-antt has no instances, coercions or hints: a check uses what the text names, what the texts of these name, and so on. A word that only looks like a name
-is taken for one, and a definition or a proof is read on wherever it is named, opened or not: more is reached than a check can use."""
+antt has no instances, coercions or hints: a check uses what the text names, what the texts of these name, and so on; and what Rattle tries by itself has
+the facts of the code and the kit's own lemmas, and those that an attribute `tactic` names. A word that only looks like a name is taken for one, and a
+definition or a proof is read on wherever it is named, opened or not: more is reached than a check can use."""
 import functools
 import os
 import re
@@ -15,10 +17,12 @@ import sys
 
 NAME = r'[^\s(){}.;,@"«»]+'
 WORD = re.compile(NAME)
-DECLARED = re.compile(rf"(?:(?:unfoldable|abbrev|axiom|pub) )*(?:(record|data|ruleset) ({NAME})|({NAME})(?: \{{[^}}]*\}})? :(?: |$))")
-ITEM = re.compile(r'(?:pub(?:\(crate\))? )?(?:extern "C" )?(fn|const|struct|enum|type) (\w+)')
+DECLARED = re.compile(rf"(?:(?:unfoldable|abbrev|opaque|axiom|pub) )*(?:(record|data|ruleset) ({NAME})|({NAME})(?: \{{[^}}]*\}})? :(?: |$))")
+ITEM = re.compile(r'(?:pub(?:\(crate\))? )?(?:unsafe )?(?:extern "C" )?(fn|const|struct|enum|type) (\w+)')
+OTHER = re.compile(r"(?:pub(?:\(crate\))? )?(?:unsafe )?(?:impl|trait|static|union|macro_rules!|extern)\b")
 USE = re.compile(r"(?:pub )?(?:ghost )?use ([^\s{;]+)(?:\{([^}]*)\})?(?: as ([^\s;]+))?")
 OF_A_CONTRACT = ("Reads", "Kinds", "Statement", "Met")  # what Rattle makes of a function's contract alone
+PROOF = re.compile(r"proofs/(?:.*/)?([^/]*)/(Answers|Invariants|Proof)\.antt$")  # a file of a function's proof
 
 
 class Piece:
@@ -67,15 +71,19 @@ def declarations(file, text):
 
 
 def items(file, text):
-    """The pieces of a file of Rattle, and its `use` lines. A body starts behind a line at the margin that ends in '{'."""
-    pieces, uses, piece, function, marks = [], [], None, False, []
+    """The pieces of a file of Rattle, and its `use` lines. A body starts behind a line at the margin that ends in '{'. An attribute belongs to the item
+    below it, and one of the whole file to each piece."""
+    pieces, uses, piece, function, marks, whole, open_mark = [], [], None, False, [], [], 0
     for line, words in enumerate(text.split("\n"), 1):
         found = ITEM.match(words)
         if not words.strip() or words.strip().startswith("//"):
             continue
-        if words.startswith("#["):
-            marks.append((line, words))
+        if open_mark or words.startswith(("#[", "#![")):
+            (whole if words.startswith("#!") or (open_mark and not marks) else marks).append((line, words))
+            open_mark += words.count("[") - words.count("]")
             continue
+        if not found and OTHER.match(words):
+            raise ValueError(f"{file}:{line}: an item that is not known here: {words}")
         if re.match("(pub )?(ghost )?(use|mod) ", words):
             uses.append(words)
             piece = None
@@ -93,6 +101,9 @@ def items(file, text):
             body, function = Piece(file, line + 1, set()), False
             piece.mate, body.mate, piece = body.place, piece.place, body
             pieces.append(body)
+    for piece in pieces:
+        for mark in whole:
+            piece.add(*mark)
     return pieces, uses
 
 
@@ -103,20 +114,26 @@ def read(file, text):
 
 def parts(words):
     """Words, with the parts of those that are operators."""
-    return {part for word in words for part in (word, *word.split("_"))}
+    return {part for word in words for part in (word, *word.split("◌"))} - {""}
 
 
 class Crate:
     """The pieces of a crate, by their places, and where names lead. The sources are given by their paths below the crate."""
 
     def __init__(self, name, texts):
-        self.own, self.texts = re.compile(rf"Rattle·{name}·(specs|proofs)\.\1\.?([^\s(){{}};,]*)"), texts
+        self.name, self.own, self.texts = name, re.compile(rf"Rattle\.{name}\.(specs|proofs)\b\.?([^\s(){{}};,]*)"), texts
         self.files = {file: read(file, text) for file, text in texts.items()}
         self.pieces = {piece.place: piece for pieces, _ in self.files.values() for piece in pieces}
-        self.items, self.known, self.led, self.back = {}, {}, {}, ({}, {})
+        self.items, self.cycles, self.proofs, self.known, self.led, self.back = {}, {}, {}, {}, {}, ({}, {})
         for piece in self.pieces.values():
             for word in piece.names if piece.file.endswith(".rt") else ():
                 self.items.setdefault(word, set()).add(piece.place)
+            for word in re.findall(r"#\[cycle\((\w+)\)\]", piece.text) if piece.mate else ():
+                self.cycles.setdefault(word, set()).add(piece.place)
+        for file, (pieces, _) in self.files.items():
+            if proof := PROOF.match(file):
+                for place in self.functions(proof[1]):
+                    self.proofs.setdefault(place, {}).setdefault(proof[2], set()).update(piece.place for piece in pieces)
 
     def with_mates(self, places):
         return places | {self.pieces[place].mate for place in places} - {None}
@@ -125,8 +142,20 @@ class Crate:
         """The items of src/ that have one of some words for a name."""
         return {place for word in words for place in self.items.get(word, ())}
 
+    def functions(self, word):
+        """The functions whose proof stands in a folder of this name: of a cycle of calls where it begins with '+'."""
+        word = word.removeprefix("+")
+        return {place for place in self.spelled([word]) if self.pieces[place].mate} | self.cycles.get(word, set())
+
+    def proof_of(self, place, *kinds):
+        """The pieces of the proof of a function, which has its contract or its body at the place."""
+        piece = self.pieces[place]
+        contract = place if piece.names else piece.mate
+        return {other for kind, places in self.proofs.get(contract, {}).items() if kind in kinds for other in places}
+
     def brought(self, path, name=""):
-        """The pieces of this crate that a path, or a name behind it, stands for: declarations of a file, or what Rattle makes a module of."""
+        """The pieces of this crate that a path, or a name behind it, stands for: declarations of a file, or what Rattle makes a module of, which is named
+        last, or before the names that Rattle gives."""
         found = self.own.match(path)
         if not found:
             return self.spelled(path.split("::")) if "::" in path else set()
@@ -136,11 +165,12 @@ class Crate:
             if pieces:
                 named = {piece.place for piece in pieces if path[end:] and path[end] in piece.names}
                 return named or {piece.place for piece in pieces}
-        path = path[:-1] if name else path
-        made_of = self.spelled(word for part in path for word in (part, *part.split("+")))
+        made_of = [self.spelled([part]) | self.functions(part) for part in path]
+        made_of = set().union(*made_of[-1:], next(filter(None, reversed(made_of[:-1])), set()))
         if not made_of:
             return {place for place, piece in self.pieces.items() if piece.file.endswith(".rt")}
-        return made_of if path[-1] in OF_A_CONTRACT else self.with_mates(made_of)
+        of_a_contract = found[1] == "specs" or set(OF_A_CONTRACT) & set(path)
+        return made_of if of_a_contract else self.with_mates(made_of)
 
     def names(self, file):
         """What each word may stand for in a file: its own declarations, and what its `use` lines bring."""
@@ -174,6 +204,10 @@ class Crate:
             found |= {other for path in self.own.finditer(piece.text) for other in self.brought(path[0])}
             if piece.file.endswith(".rt"):
                 found |= self.spelled(re.findall(r"\w+", piece.text))
+                for part, path in re.findall(r"\bcrate::(specs|proofs)::([\w:]+)", piece.text):
+                    found |= self.brought(f"Rattle.{self.name}.{part}.{path.replace('::', '.')}")
+                if piece.mate and not piece.names:
+                    found |= self.proof_of(place, "Invariants")
             self.led[place] = found
         return self.led[place]
 
@@ -192,16 +226,21 @@ class Crate:
         back = self.back[waiting]
         if not back:
             for place, piece in self.pieces.items():
-                function = re.search(r"([^/]*)/Proof\.antt$", piece.file)
+                proof = PROOF.match(piece.file)
                 for other in self.leads(place):
                     back.setdefault(other, set()).add(place)
-                if waiting and (function or piece.mate):
-                    back.setdefault(place, set()).update(self.spelled(function[1].split("+")) if function else {piece.mate})
+                if waiting and (proof or piece.mate):
+                    back.setdefault(place, set()).update(self.functions(proof[1]) if proof else {piece.mate})
         return self.reach(places, lambda place: back.get(place, ()))
 
     def at(self, file, line):
-        """The pieces at a line: several at the head of a section, and of a function both contract and body."""
-        return self.with_mates({piece.place for piece in self.files.get(file, ((), ()))[0] if line in piece.lines})
+        """The pieces at a line: several at the head of a section, and of a function contract, body and the pieces of its proof. A line of none, as a `use`
+        line, stands for all of its file and all that it brings."""
+        pieces, _ = self.files.get(file, ((), ()))
+        found = self.with_mates({piece.place for piece in pieces if line in piece.lines})
+        if pieces and not found:
+            found = self.with_mates({piece.place for piece in pieces}.union(*self.names(file).values()))
+        return found | {other for place in found if self.pieces[place].mate for other in self.proof_of(place, "Answers", "Invariants", "Proof")}
 
     def changed(self, lines, before):
         """The pieces that some lines change. A line of none, as a `use` line, changes those of its file that have a word in which it differs from before."""

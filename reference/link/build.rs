@@ -1,11 +1,11 @@
 //! Links the proved library. MTA_LIB names the folder of libmta.a; it is
-//! target/staticlib of the repository where it is not set.
+//! crates/mta/out where it is not set.
 
 use std::path::PathBuf;
 
 fn main() {
     let here = PathBuf::from(std::env::var("CARGO_MANIFEST_DIR").unwrap());
-    let proved = std::env::var_os("MTA_LIB").map_or(here.join("../../target/staticlib"), PathBuf::from);
+    let proved = std::env::var_os("MTA_LIB").map_or(here.join("../../crates/mta/out"), PathBuf::from);
     println!("cargo:rustc-link-search=native={}", proved.display());
     println!("cargo:rustc-link-lib=static=mta");
     println!("cargo:rerun-if-changed={}", proved.join("libmta.a").display());

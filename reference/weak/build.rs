@@ -59,12 +59,13 @@ fn write() -> Result<(), String> {
     let public: Vec<String> = done.public.iter().filter(|one| !one.is_empty).map(|one| format!("{:?}", one.name)).collect();
     let text = format!(
         "{modules}\npub const CODES: &[(&str, &dyn crate::code::Code)] = &[{table}];\npub const PUBLIC: &[&str] = &[{}];\n\
-         pub const TRANSLATED: &str = \"{} functions of {} files; {} clauses and {} ghost lines are left out\";\n",
+         pub const TRANSLATED: &str = \"{} functions of {} files; {} clauses, {} ghost lines and {} attributes are left out\";\n",
         public.join(", "),
         done.functions,
         done.files,
         done.clauses,
         done.ghost_lines,
+        done.attributes,
     );
     let out = PathBuf::from(std::env::var("OUT_DIR").unwrap()).join("variants.rs");
     fs::write(&out, text).map_err(|error| format!("{}: {error}", out.display()))
@@ -80,7 +81,7 @@ fn uses(text: &str) -> Result<BTreeMap<String, Vec<String>>, String> {
     lines
         .map(|line| {
             let (name, uses) = line.split_once(':').ok_or(format!("crates.txt: {line}"))?;
-            Ok((name.trim().to_string(), uses.split_whitespace().map(str::to_string).collect()))
+            Ok((name.split_whitespace().next().unwrap_or("").to_string(), uses.split_whitespace().map(str::to_string).collect()))
         })
         .collect()
 }
@@ -136,6 +137,7 @@ fn variant(
         done.functions += own.functions;
         done.clauses += own.clauses;
         done.ghost_lines += own.ghost_lines;
+        done.attributes += own.attributes;
         if COMPARED.contains(&&one[..]) {
             done.public.append(&mut own.public);
         }

@@ -1,5 +1,5 @@
 -- The order of a dispute's refusals before its work, over any hash H. Assumes nothing.
-use mathlib.Core.Path.{◌≡◌, refl, sym, ap, ◌∙◌}
+use mathlib.Core.Path.{◌≡◌, sym, ap, ◌∙◌}
 use mathlib.Core.Bool.{true, false}
 use mathlib.Core.List.{List, ◌∷◌}
 use Prim.Native.Nat.{ℕ, ◌≤◌}
@@ -40,5 +40,5 @@ module _ (H : List ℕ → List ℕ) (page₁ : List ℕ) (place : ℕ) (path₁
       pub lengths : v ≡ 0 → (length path₁ ≤ longest_path) × (length root ≡ 32)
       lengths z =
           let a = inclusion_accepted H leaf place size root path₁ (sym said ∙ z) in
-          let b = bounds.inclusion-largest place size a.below a.in-range in
-          (omega (arith, a.counted, b), a.root-32)
+          let b = bounds.inclusion_largest place size a.below a.in_range in
+          (omega (arith, a.counted, b), a.root_32)

@@ -7,6 +7,7 @@ use native.Mathlib.Omega.{arith}
 use lib.ListN.{length, take}
 use contract.Lifetimes.{Lfts}
 use denote.Ref.{Bor}
+use denote.MutBor.{MutBor}
 use Rattle.auditor.specs.declared.Record.{Record}
 use Rattle.auditor.specs.declared.Answered.{Answered}
 use Rattle.auditor.specs.declared.dispute.Settled.{Settled}
@@ -67,7 +68,7 @@ listed r s es (asks κs n place page path o p rest) =
 
 -- whatever the dispute is given
 pub reports :
-    (κs : Lfts 7) (n place size : ℕ) (page₁ path₁ root between page₂ path₂ pair pair' : Bor (List ℕ)) (d : Settled) →
+    (κs : Lfts 7) (n place size : ℕ) (page₁ path₁ root between page₂ path₂ : Bor (List ℕ)) (pair pair' : MutBor (List ℕ)) (d : Settled) →
     dispute-reads.Learnt κs (n, (page₁, (place, (path₁, (size, (root, (between, (page₂, (path₂, (pair, tt)))))))))) d (n, (page₁, (place, (path₁, (size, (root, (between, (page₂, (path₂, (pair', tt)))))))))) →
     SoundBy (algorithm_of n) page₁.now page₂.now (settling d) pair'.now pair.now
 reports κs n place size page₁ path₁ root between page₂ path₂ pair pair' d p =
@@ -78,7 +79,7 @@ pub every :
     (start end : Record) → empty-reads.Learnt tt tt start tt →
     (before between rest : List (Numbered Entry)) (n₁ n₂ place : ℕ) (page₁ path₁ page₂ path₂ : Bor (List ℕ)) →
     Run start (before ++ (under n₁ (answered (ask place page₁.now path₁.now) 0) ∷ (between ++ (under n₂ (answered (ask place page₂.now path₂.now) 0) ∷ rest)))) end →
-    (κs : Lfts 7) (size : ℕ) (root joined pair pair' : Bor (List ℕ)) (d : Settled) →
+    (κs : Lfts 7) (size : ℕ) (root joined : Bor (List ℕ)) (pair pair' : MutBor (List ℕ)) (d : Settled) →
     size ≡ last_size 0 (heads (plain before)) → root.now ≡ last_root [] (heads (plain before)) → joined.now ≡ joined_heads (heads (plain between)) → pair_bytes ≤ length pair.now →
     dispute-reads.Learnt κs (n₁, (page₁, (place, (path₁, (size, (root, (joined, (page₂, (path₂, (pair, tt)))))))))) d (n₁, (page₁, (place, (path₁, (size, (root, (joined, (page₂, (path₂, (pair', tt)))))))))) →
     (n₁ ≡ n₂) × OfHash (algorithm_of n₁) (λ H. Settles H page₁.now page₂.now (settling d) pair'.now)
@@ -96,7 +97,7 @@ pub data Journals : Record → List (Numbered Entry) → Record → List ℕ →
   takes :
       {r s : Record} {es : List (Numbered Entry)} {bytes : List ℕ} {used : ℕ} (κs : Lfts 3) (n : ℕ) (id : Bor (List ℕ)) (time size : ℕ) (root path : Bor (List ℕ)) (o : Answered) →
       offer-reads.Learnt κs (n, (r, (id, (time, (size, (root, (path, tt))))))) o (n, (r, (id, (time, (size, (root, (path, tt))))))) → o.number ≡ 0 →
-      (κs₂ : Lfts 3) (lent left : Bor (List ℕ)) (start more : ℕ) →
+      (κs₂ : Lfts 3) (lent left : MutBor (List ℕ)) (start more : ℕ) →
       append-reads.Learnt κs₂ (lent, (start, (size, (root, (path, tt))))) (Used more) (left, (start, (size, (root, (path, tt))))) →
       Journals o.after es s left.now more bytes used →
       Journals r (under n (answered (offer id.now time size root.now path.now) o.number) ∷ es) s lent.now start bytes used
@@ -146,7 +147,7 @@ pub every_kept :
     ask-reads.Learnt κs₁ (n₁, (held, (place, (page₁, (path₁, tt))))) first (n₁, (held, (place, (page₁, (path₁, tt))))) → first.number ≡ 0 →
     Journals first.after between held₂ lent 0 bytes used →
     ask-reads.Learnt κs₂ (n₂, (held₂, (place, (page₂, (path₂, tt))))) second (n₂, (held₂, (place, (page₂, (path₂, tt))))) → second.number ≡ 0 →
-    (κs : Lfts 7) (root joined pair pair' : Bor (List ℕ)) (d : Settled) →
+    (κs : Lfts 7) (root joined : Bor (List ℕ)) (pair pair' : MutBor (List ℕ)) (d : Settled) →
     root.now ≡ held.root → joined.now ≡ take used bytes → pair_bytes ≤ length pair.now →
     dispute-reads.Learnt κs (n₁, (page₁, (place, (path₁, (held.size, (root, (joined, (page₂, (path₂, (pair, tt)))))))))) d (n₁, (page₁, (place, (path₁, (held.size, (root, (joined, (page₂, (path₂, (pair', tt)))))))))) →
     (n₁ ≡ n₂) × OfHash (algorithm_of n₁) (λ H. Settles H page₁.now page₂.now (settling d) pair'.now)
@@ -172,6 +173,9 @@ every_kept start held held₂ s before between n₁ n₂ place page₁ path₁ p
 ref : List ℕ → Bor (List ℕ)
 ref l = record { ref_ptr = (0, 0); now = l }
 
+mut_ref : List ℕ → MutBor (List ℕ)
+mut_ref l = record { ref_ptr = (0, 0); ghost_name = 0; now = l }
+
 -- the code's answer that reports this
 said : Answer Ruling → Settled
 said (done same_page) = Same
@@ -187,7 +191,7 @@ said_is (done of_pages) = refl
 said_is (refused n) = refl
 
 runs : (r : Record) (calls : List (Numbered Call)) → Run r (answers r calls) (final r calls)
-unfolding answers entry final called ref
+unfolding answers entry final called ref mut_ref
 runs r [] = stop
 runs r (under n (offer id time size root path) ∷ calls) =
     offers ([], ([], ([], tt))) n (ref id) time size (ref root) (ref path) (offered n r id time size root path) refl (runs (offered n r id time size root path).after calls)
@@ -197,17 +201,17 @@ takes_one : (r s : Record) (es : List (Numbered Entry)) (n : ℕ) (id : List ℕ
     (offered n r id time size root path).number ≡ 0 → if_kept (noted (journal_after start w lent) (append_report start w)) (journaled (plain es)) ≡ kept bytes used →
     ((l : List ℕ) (u : ℕ) → journaled (plain es) l u ≡ kept bytes used → Journals (offered n r id time size root path).after es s l u bytes used) →
     Journals r (under n (answered (offer id time size root path) (offered n r id time size root path).number) ∷ es) s lent start bytes used
-unfolding ref noted if_kept append_report journal_after
+unfolding ref mut_ref noted if_kept append_report journal_after
 takes_one r s es n id time size root path lent bytes start used (Outcome.refused k) q z e i = absurd (no_lost bytes used k e)
 takes_one r s es n id time size root path lent bytes start used (wrote x) q z e i =
-    takes ([], ([], ([], tt))) n (ref id) time size (ref root) (ref path) (offered n r id time size root path) refl z ([], ([], ([], tt))) (ref lent) (ref (put lent start x)) start (start + length x)
+    takes ([], ([], ([], tt))) n (ref id) time size (ref root) (ref path) (offered n r id time size root path) refl z ([], ([], ([], tt))) (mut_ref lent) (mut_ref (put lent start x)) start (start + length x)
     (rw q (refl, refl)) (i (put lent start x) (start + length x) e)
 
 some_one : (r s : Record) (es : List (Numbered Entry)) (n : ℕ) (id : List ℕ) (time size : ℕ) (root path lent bytes : List ℕ) (start used k : ℕ) → (offered n r id time size root path).number ≡ k →
     journaled (answered (offer id time size root path) k ∷ plain es) lent start ≡ kept bytes used →
     ((l : List ℕ) (u : ℕ) → journaled (plain es) l u ≡ kept bytes used → Journals (offered n r id time size root path).after es s l u bytes used) →
     Journals r (under n (answered (offer id time size root path) (offered n r id time size root path).number) ∷ es) s lent start bytes used
-unfolding ref journaled
+unfolding ref mut_ref journaled
 some_one r s es n id time size root path lent bytes start used zero z e i =
     takes_one r s es n id time size root path lent bytes start used (append (length lent) start size root path) refl z e i
 some_one r s es n id time size root path lent bytes start used (suc k) z e i =
@@ -217,7 +221,7 @@ some_one r s es n id time size root path lent bytes start used (suc k) z e i =
     one_zero y = omega arith
 
 journals : (r : Record) (calls : List (Numbered Call)) (lent bytes : List ℕ) (start used : ℕ) → journaled (plain (answers r calls)) lent start ≡ kept bytes used → Journals r (answers r calls) (final r calls) lent start bytes used
-unfolding answers entry plain final called journaled ref
+unfolding answers entry plain final called journaled ref mut_ref
 journals r [] lent bytes start used e =
     let b : lent ≡ bytes = cc in
     let u : start ≡ used = cc in
@@ -233,14 +237,14 @@ seven : Lfts 7
 seven = ([], ([], ([], ([], ([], ([], ([], tt)))))))
 
 pub whatever_claimed : WhateverGiven
-unfolding ref
+unfolding ref mut_ref
 whatever_claimed n page₁ place path₁ size root between page₂ path₂ pair =
     let d = dispute_by n page₁ place path₁ size root (heads_of between) page₂ path₂ (length pair) in
     rw (said_is (dispute_report d)) at
-    (reports seven n place size (ref page₁) (ref path₁) (ref root) (ref between) (ref page₂) (ref path₂) (ref pair) (ref (pair_disputed d pair)) (said (dispute_report d)) (said_is (dispute_report d), refl))
+    (reports seven n place size (ref page₁) (ref path₁) (ref root) (ref between) (ref page₂) (ref path₂) (mut_ref pair) (mut_ref (pair_disputed d pair)) (said (dispute_report d)) (said_is (dispute_report d), refl))
 
 pub demand3_claimed : Demand3
-unfolding ref
+unfolding ref mut_ref
 demand3_claimed calls before between rest n₁ n₂ place page₁ path₁ page₂ path₂ pair e long =
     let m = last_size 0 (heads (plain before)) in
     let r = last_root [] (heads (plain before)) in
@@ -248,11 +252,11 @@ demand3_claimed calls before between rest n₁ n₂ place page₁ path₁ page�
     let d = dispute_by n₁ page₁ place path₁ m r (heads_of h) page₂ path₂ (length pair) in
     let run : Run empty_record (before ++ (under n₁ (answered (ask place page₁ path₁) 0) ∷ (between ++ (under n₂ (answered (ask place page₂ path₂) 0) ∷ rest)))) (final empty_record calls) = rw e at (runs empty_record calls) in
     rw (said_is (dispute_report d)) at
-    (every empty_record (final empty_record calls) refl before between rest n₁ n₂ place (ref page₁) (ref path₁) (ref page₂) (ref path₂) run seven m (ref r) (ref h) (ref pair) (ref (pair_disputed d pair)) (said (dispute_report d))
+    (every empty_record (final empty_record calls) refl before between rest n₁ n₂ place (ref page₁) (ref path₁) (ref page₂) (ref path₂) run seven m (ref r) (ref h) (mut_ref pair) (mut_ref (pair_disputed d pair)) (said (dispute_report d))
     refl refl refl long (said_is (dispute_report d), refl))
 
 pub kept_claimed : AsKept
-unfolding ref called
+unfolding ref mut_ref called
 kept_claimed earlier between n₁ n₂ place page₁ path₁ page₂ path₂ lent bytes used pair a j b long =
     let held = final empty_record earlier in
     let first = asked n₁ held place page₁ path₁ in
@@ -260,5 +264,5 @@ kept_claimed earlier between n₁ n₂ place page₁ path₁ page₂ path₂ len
     let d = dispute_by n₁ page₁ place path₁ held.size held.root (heads_of (take used bytes)) page₂ path₂ (length pair) in
     rw (said_is (dispute_report d)) at
     (every_kept empty_record held held₂ refl (answers empty_record earlier) (answers first.after between) n₁ n₂ place (ref page₁) (ref path₁) (ref page₂) (ref path₂) ([], ([], tt)) ([], ([], tt)) first (asked n₂ held₂ place page₂ path₂) lent bytes used
-    (runs empty_record earlier) refl a (journals first.after between lent bytes 0 used j) refl b seven (ref held.root) (ref (take used bytes)) (ref pair) (ref (pair_disputed d pair)) (said (dispute_report d))
+    (runs empty_record earlier) refl a (journals first.after between lent bytes 0 used j) refl b seven (ref held.root) (ref (take used bytes)) (mut_ref pair) (mut_ref (pair_disputed d pair)) (said (dispute_report d))
     refl refl long (said_is (dispute_report d), refl))

@@ -136,12 +136,12 @@ module _ (H : List ℕ → List ℕ) where
     since_offer empty id₂ time₂ size₂ root₂ path₂ s e = absurd s
     since_offer (head id₁ time₁ size₁ root₁) id₂ time₂ size₂ root₂ path₂ s e =
         let t = taken H id₁ time₁ size₁ root₁ id₂ time₂ size₂ root₂ path₂ e in
-        let a = t.no-smaller in
-        let b = t.no-earlier in (
-          s.0 ∙ t.one-log,
+        let a = t.no_smaller in
+        let b = t.no_earlier in (
+          s.0 ∙ t.one_log,
           omega arith,
           omega arith,
-          λ q. s.3 (omega arith) ∙ t.one-root (omega arith),
+          λ q. s.3 (omega arith) ∙ t.one_root (omega arith),
           λ q.
               let u = s.4 (omega arith) in
               let v = t.one_time (omega arith) in
@@ -183,8 +183,8 @@ module _ (H : List ℕ → List ℕ) where
   unfolding Fits
   consistent_fits m n r s path hs e f =
       let c = consistency_accepted H m n r s path e in
-      let b = bounds.consistency-largest m n c.some c.order c.in-range in
-      ((small n c.in-range, c.second-32, omega arith, omega arith), f)
+      let b = bounds.consistency_largest m n c.some c.order c.in_range in
+      ((small n c.in_range, c.second_32, omega arith, omega arith), f)
     where
       small : (k : ℕ) → k ≤ largest_size → k < 256 ^ 8
       small k h = omega arith
@@ -215,7 +215,7 @@ pub never_back : NeverBack
 unfolding Since
 never_back calls before between rest n₁ n₂ id₁ id₂ time₁ time₂ size₁ size₂ root₁ root₂ path₁ path₂ e =
     let u = two_accepted calls before between rest n₁ n₂ (offer id₁ time₁ size₁ root₁ path₁) (offer id₂ time₂ size₂ root₂ path₂) e in
-    let s = never (hash_of u.alg) u.calls (plain (accepted before)) (plain (accepted between)) (plain (accepted rest)) id₁ id₂ time₁ time₂ size₁ size₂ root₁ root₂ path₁ path₂ u.as-run in
+    let s = never (hash_of u.alg) u.calls (plain (accepted before)) (plain (accepted between)) (plain (accepted rest)) id₁ id₂ time₁ time₂ size₁ size₂ root₁ root₂ path₁ path₂ u.as_run in
     (u.one_number, s.0, s.1, s.3, later_or_same (eqb time₁ time₂) refl s.0 s.2 s.4)
   where
     later_or_same : (b : Bool) → eqb time₁ time₂ ≡ b → id₁ ≡ id₂ → time₁ ≤ time₂ → (time₁ ≡ time₂ → (size₁ ≡ size₂) × (root₁ ≡ root₂)) → (time₁ < time₂) ⊎ (head id₁ time₁ size₁ root₁ ≡ head id₂ time₂ size₂ root₂)
@@ -257,4 +257,4 @@ one_timestamp = (each, of_code)
         let u = one_hash_of calls in
         let es = answers empty_record calls in
         each (hash_of u.alg) (calls_of es) (took before) (took between) (took rest) id₁ id₂ time size₁ size₂ root₁ root₂ path₁ path₂
-        (u.runs.one-run ∙ took_plain es ∙ ap took e ∙ took_two before between rest (offer id₁ time size₁ root₁ path₁) (offer id₂ time size₂ root₂ path₂))
+        (u.runs.one_run ∙ took_plain es ∙ ap took e ∙ took_two before between rest (offer id₁ time size₁ root₁ path₁) (offer id₂ time size₂ root₂ path₂))

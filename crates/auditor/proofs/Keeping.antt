@@ -128,12 +128,12 @@ one_more entries id time size root path lent bytes start used (wrote w) q e i =
     let t : w ++ joined_heads hs ≡ joined_heads (then size root path hs) = ap (λ (x : List ℕ). x ++ joined_heads hs) a.0 ∙ joined_then size root path hs in
     let k = length-append w (joined_heads hs) in
     let n = ap length t in
-    let m = j.used-more in
+    let m = j.used_more in
     let u : used ≡ start + length w + length (joined_heads hs) = m in
     record {
-      heads_joined = j.heads-joined ∙ ap (λ (x : List ℕ). x ++ joined_heads hs) p.0 ∙ append_assoc (take start lent) w (joined_heads hs) ∙ ap (λ (x : List ℕ). take start lent ++ x) t;
+      heads_joined = j.heads_joined ∙ ap (λ (x : List ℕ). x ++ joined_heads hs) p.0 ∙ append_assoc (take start lent) w (joined_heads hs) ∙ ap (λ (x : List ℕ). take start lent ++ x) t;
       used_more = omega arith;
-      rest_stays = j.rest-stays ∙ past (start + length w) (length (joined_heads hs)) used (put lent start w) lent u p.1;
+      rest_stays = j.rest_stays ∙ past (start + length w) (length (joined_heads hs)) used (put lent start w) lent u p.1;
     }
   where
     past : (at more all : ℕ) (x y : List ℕ) → all ≡ at + more → drop at x ≡ drop at y → drop all x ≡ drop all y
@@ -149,10 +149,10 @@ journal_joins (answered (offer id time size root path) zero ∷ entries) lent by
     one_more entries id time size root path lent bytes start used (append (length lent) start size root path) refl e (λ l s f. journal_joins entries l bytes s used f)
 journal_joins (answered (offer id time size root path) (suc n) ∷ entries) lent bytes start used e =
     let j = journal_joins entries lent bytes start used e in
-    record { heads_joined = j.heads-joined; used_more = j.used-more; rest_stays = j.rest-stays }
+    record { heads_joined = j.heads_joined; used_more = j.used_more; rest_stays = j.rest_stays }
 journal_joins (answered (ask place page path) n ∷ entries) lent bytes start used e =
     let j = journal_joins entries lent bytes start used e in
-    record { heads_joined = j.heads-joined; used_more = j.used-more; rest_stays = j.rest-stays }
+    record { heads_joined = j.heads_joined; used_more = j.used_more; rest_stays = j.rest_stays }
 
 -- ---- how long is long enough
 
@@ -164,21 +164,21 @@ record Short (root path : List ℕ) : Type 0 where
 
 few_by : (H : List ℕ → List ℕ) (held : Held) (id : List ℕ) (time size : ℕ) (root path : List ℕ) → offer_number H held id time size root path ≡ 0 → length path ≤ 32 * (most_nodes + 1)
 unfolding by_record first
-few_by H empty id time size root path e = by_length (eqb (length path) 0) refl (pass (outside size) 5 _ (passed H empty id time size root path e).by-record).1
+few_by H empty id time size root path e = by_length (eqb (length path) 0) refl (pass (outside size) 5 _ (passed H empty id time size root path e).by_record_lem).1
   where
     by_length : (b : Bool) → eqb (length path) 0 ≡ b → ◌≡◌ {A = ℕ} (cond b 0 7) 0 → length path ≤ 32 * (most_nodes + 1)
     by_length true f g = let z = eqb-true (length path) 0 f in omega arith
     by_length false f g = absurd (omega arith)
 few_by H (head id₀ time₀ size₀ root₀) id time size root path e =
     let c = consistency_accepted H size₀ size root₀ root path (taken H id₀ time₀ size₀ root₀ id time size root path e).consistent in
-    let b = bounds.consistency-largest size₀ size c.some c.order c.in-range in
+    let b = bounds.consistency_largest size₀ size c.some c.order c.in_range in
     let k = c.counted in
     omega arith
 
 short_head : (H : List ℕ → List ℕ) (held : Held) (id : List ℕ) (time size : ℕ) (root path : List ℕ) → offer_number H held id time size root path ≡ 0 → Short root path
 short_head H held id time size root path e =
     let p = passed H held id time size root path e in
-    record { root_32 = p.root-32; whole = p.path-whole; few = few_by H held id time size root path e }
+    record { root_32 = p.root_32; whole = p.path_whole; few = few_by H held id time size root path e }
 
 -- the rest is not refused, whatever number the first call answered
 goes_on : (entries : List Entry) (id : List ℕ) (time size : ℕ) (root path lent : List ℕ) (start number : ℕ) → (number ≡ 0 → Short root path) →
@@ -189,9 +189,9 @@ unfolding heads how_many journaled journal_after append_report noted if_kept
 goes_on entries id time size root path lent start zero s h i n e =
     let a = s refl in
     let f = a.few in
-    let k = head_length size root path a.root-32 in
+    let k = head_length size root path a.root_32 in
     let w = joined_heads (then size root path end) in
-    let o = fits (length lent) start size root path a.root-32 (omega arith) a.whole (omega arith) in
+    let o = fits (length lent) start size root path a.root_32 (omega arith) a.whole (omega arith) in
     let l = put_length lent w start (omega arith) in
     i (put lent start w) (start + length w) (omega arith) n (rw o at e)
 goes_on entries id time size root path lent start (suc number) s h i n e = i lent start h n e
@@ -254,5 +254,5 @@ as_kept earlier between n₁ n₂ place page₁ path₁ page₂ path₂ lent byt
     let d = demand3 calls before since [] n₁ n₂ place page₁ path₁ page₂ path₂ pair e enough in (
       d.0,
       settles_by n₁ page₁ place path₁ page₂ path₂ pair held.size (last_size 0 (heads (plain before))) held.root (last_root [] (heads (plain before))) (take used bytes) (joined_heads (heads (plain since)))
-          h.0 h.1 (journal_joins (plain since) lent bytes 0 used j).heads-joined d.1,
+          h.0 h.1 (journal_joins (plain since) lent bytes 0 used j).heads_joined d.1,
     )

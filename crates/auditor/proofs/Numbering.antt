@@ -20,13 +20,13 @@ use Rattle.auditor.specs.declared.Answered.{Answered}
 use Rattle.auditor.specs.declared.Evidence.{Evidence}
 use Rattle.auditor.specs.Held.{Held, empty, head, view, choice, stayed, empty_record, holding}
 use Rattle.auditor.specs.Second.{is_evidence, evidence_of, beside}
-use Rattle.auditor.specs.Offer.{offer_number, kept, kept_record, offered_over, offered}
+use Rattle.auditor.specs.Offer.{kept, kept_record, offered_over, offered}
 use Rattle.auditor.specs.Page.{page_number, asked}
-use Rattle.auditor.specs.Heads.{Heads, then}
+use Rattle.auditor.specs.Heads.{then}
 use Rattle.auditor.specs.Calls.{Call, offer, ask, Entry, answered, Numbered, under, plain, called, entry, answers, final, AllUnder, call_of, accepted, paper_number, paper_after, run, heads}
 use Rattle.hash.proofs.Algorithms.{held_itself, held_another, some_hash}
 use Rattle.hash.proofs.Promises.{numbers}
-use Rattle.auditor.proofs.Offering.{view_held, view_empty}
+use Rattle.auditor.proofs.Offering.{view_empty}
 
 -- ---- one call
 
@@ -179,11 +179,11 @@ pub record RunsUnder (a : Algorithm) (held : Held) (es : List (Numbered Entry)) 
 accept_one : (a : Algorithm) (held : Held) (n : ℕ) (c : Call) (es : List (Numbered Entry)) → paper_number (hash_of a) held c ≡ 0 → algorithm_of n ≡ By a →
     RunsUnder a (paper_after (hash_of a) held c 0) es → RunsUnder a held (under n (answered c 0) ∷ es)
 unfolding run accepted call_of plain AllBy
-accept_one a held n c es e f w = record { one_run = rw e (ap (λ (l : List Entry). answered c 0 ∷ l) w.one-run); one_hash = (f, w.one-hash) }
+accept_one a held n c es e f w = record { one_run = rw e (ap (λ (l : List Entry). answered c 0 ∷ l) w.one_run); one_hash = (f, w.one_hash) }
 
 pass_one : (a : Algorithm) (held : Held) (n : ℕ) (c : Call) (k : ℕ) (es : List (Numbered Entry)) → RunsUnder a held es → RunsUnder a held (under n (answered c (suc k)) ∷ es)
 unfolding run accepted call_of plain AllBy
-pass_one a held n c k es w = record { one_run = w.one-run; one_hash = w.one-hash }
+pass_one a held n c k es w = record { one_run = w.one_run; one_hash = w.one_hash }
 
 -- from a record that is bound
 bound_step : (a : Algorithm) (r : Record) (n : ℕ) (c : Call) (calls : List (Numbered Call)) → Bound a r →
@@ -298,8 +298,8 @@ one_accepted calls x y n c e =
     record {
       alg = u.alg;
       calls = calls_of (answers empty_record calls);
-      as_run = u.runs.one-run ∙ ap (λ (es : List (Numbered Entry)). plain (accepted es)) e ∙ around_one x y n c;
-      named = (gone_by u.alg x y n c (subst (AllBy u.alg) e u.runs.one-hash)).0;
+      as_run = u.runs.one_run ∙ ap (λ (es : List (Numbered Entry)). plain (accepted es)) e ∙ around_one x y n c;
+      named = (gone_by u.alg x y n c (subst (AllBy u.alg) e u.runs.one_hash)).0;
     }
 
 pub record Two (x y z : List (Numbered Entry)) (n m : ℕ) (c d : Call) : Type 0 where
@@ -313,12 +313,12 @@ pub two_accepted : (calls : List (Numbered Call)) (x y z : List (Numbered Entry)
     answers empty_record calls ≡ x ++ (under n (answered c 0) ∷ (y ++ (under m (answered d 0) ∷ z))) → Two x y z n m c d
 two_accepted calls x y z n m c d e =
     let u = one_hash_of calls in
-    let g = gone_by u.alg x (y ++ (under m (answered d 0) ∷ z)) n c (subst (AllBy u.alg) e u.runs.one-hash) in
+    let g = gone_by u.alg x (y ++ (under m (answered d 0) ∷ z)) n c (subst (AllBy u.alg) e u.runs.one_hash) in
     let h = gone_by u.alg y z m d g.1 in
     record {
       alg = u.alg;
       calls = calls_of (answers empty_record calls);
-      as_run = u.runs.one-run ∙ ap (λ (es : List (Numbered Entry)). plain (accepted es)) e ∙ around_two x y z n m c d;
+      as_run = u.runs.one_run ∙ ap (λ (es : List (Numbered Entry)). plain (accepted es)) e ∙ around_two x y z n m c d;
       named = g.0;
       one_number = numbers.one_number n u.alg g.0 ∙ sym (numbers.one_number m u.alg h.0);
     }
@@ -389,7 +389,8 @@ number_first r n c calls h i zero e =
     let z = ap (λ (v : Held). paper_number (hash_of a) v c) (sym (view_empty r h)) ∙ g.accepts in
     let s = after_call n r c 0 in
     let t = bound_numbers a calls s (offers_first (hash_of a) n r c a z (sym (free_choice r n h) ∙ g.chose)) in
-    rw g.next (first_number (hash_of a) n r c z ∙ sym t.1, subst (λ (m : ℕ). AllUnder m (answers s calls)) (sym t.1) t.0)
+    let P : Record → Type 0 = λ x. AllUnder (final x calls).algorithm (under n (answered c zero) ∷ answers x calls) in
+    subst P (sym g.next) (first_number (hash_of a) n r c z ∙ sym t.1, subst (λ (m : ℕ). AllUnder m (answers s calls)) (sym t.1) t.0)
 number_first r n c calls h i (suc k) e = let s = stays r (under n c) k e in rw s.same (i (beside r s.place) h)
 
 pub all_numbered : (calls : List (Numbered Call)) (r : Record) → r.held ≡ false → AllUnder (final r calls).algorithm (answers r calls)

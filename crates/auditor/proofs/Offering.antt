@@ -3,7 +3,7 @@ use mathlib.Core.Path.{◌≡◌, refl, sym, ap, ap₂, ◌∙◌}
 use mathlib.Core.Bool.{false≢true, Bool, true, false, cond, not, ◌&&◌, ◌||◌}
 use mathlib.Core.Logic.{◌⊎◌, inl, inr}
 use mathlib.Core.List.{List}
-use Prim.Native.Nat.{ℕ, zero, suc, ◌%◌, ◌≤◌, ◌<◌}
+use Prim.Native.Nat.{ℕ, zero, suc, ◌%◌, ◌≤◌}
 use native.Mathlib.Omega.{arith}
 use lib.Dec.{ltb, eqb}
 use lib.ListN.{length, replicate}
@@ -142,7 +142,7 @@ module _ (H : List ℕ → List ℕ) (id₀ : List ℕ) (time₀ size₀ : ℕ) 
 
   pub taken : offer_number H (head id₀ time₀ size₀ root₀) id time size root path ≡ 0 → Taken H id₀ time₀ size₀ root₀ id time size root path
   unfolding by_record
-  taken e = by_tests (passed H (head id₀ time₀ size₀ root₀) id time size root path e).by-record
+  taken e = by_tests (passed H (head id₀ time₀ size₀ root₀) id time size root path e).by_record_lem
 
 -- ---- evidence
 

@@ -59,17 +59,17 @@ same_size n m s r h = go (eqb n m) refl
     go true e = rw (same_of s r (h (eqb-true n m e)))
     go false e = refl
 
-module _ (H : List ℕ → List ℕ) (id : List ℕ) (least : 2 ≤ length id) (most : length id ≤ 127) (time n : ℕ) (s : List ℕ) (s-32 : length s ≡ 32) (some : 0 < n) (in_range : n ≤ largest_size) where
+module _ (H : List ℕ → List ℕ) (id : List ℕ) (least : 2 ≤ length id) (most : length id ≤ 127) (time n : ℕ) (s : List ℕ) (s_32 : length s ≡ 32) (some : 0 < n) (in_range : n ≤ largest_size) where
   takes_first : offer_number H empty id time n s [] ≡ 0
   unfolding offer_number by_record first
   takes_first =
-      rw (eq-eqb (length s) 32 s-32, le-ltb (length id) 2 least, le-ltb 127 (length id) most, inside n some in_range)
+      rw (eq-eqb (length s) 32 s_32, le-ltb (length id) 2 least, le-ltb 127 (length id) most, inside n some in_range)
 
   -- a later head with a fresh timestamp is left to the verdict
   pub takes_later : (t m : ℕ) (r proof : List ℕ) → length proof % 32 ≡ 0 → m ≤ n → t ≤ time → (t ≡ time → (m ≡ n) × (r ≡ s)) → (n ≡ m → s ≡ r) → offer_number H (head id t m r) id time n s proof ≡ consistency_verdict H m n r s proof
   unfolding offer_number by_record against
   takes_later t m r proof whole le since one_time one =
-      rw (eq-eqb (length s) 32 s-32, le-ltb (length id) 2 least, le-ltb 127 (length id) most, eq-eqb (length proof % 32) 0 whole, same_refl id, inside n some in_range, le-ltb n m le, as_earlier t m r time n s one_time, le-ltb time t since, same_size n m s r one)
+      rw (eq-eqb (length s) 32 s_32, le-ltb (length id) 2 least, le-ltb 127 (length id) most, eq-eqb (length proof % 32) 0 whole, same_refl id, inside n some in_range, le-ltb n m le, as_earlier t m r time n s one_time, le-ltb time t since, same_size n m s r one)
 
 takes_page : (H : List ℕ → List ℕ) (id : List ℕ) (t m : ℕ) (r : List ℕ) (place : ℕ) (item proof : List ℕ) → length item ≤ most_item → inclusion_verdict H (H (0 ∷ item)) place m r proof ≡ 0 → page_number H (head id t m r) place item proof ≡ 0
 unfolding page_number
@@ -152,7 +152,7 @@ module _ (H : List ℕ → List ℕ) (H32 : (s : List ℕ) → length (H s) ≡ 
     own_short : (place : ℕ) → place < n → length (own n place) ≤ longest_path
     own_short place h =
         let c = (inclusion_accepted H (H (0 ∷ get_or pages place [])) place n (root_at n) (own n place) (own_accepted place h)).counted in
-        let k = bounds.inclusion-largest place n h (omega arith) in
+        let k = bounds.inclusion_largest place n h (omega arith) in
         omega arith
 
   -- two sizes
@@ -345,4 +345,4 @@ grown_heads a id pages calls n all le e =
     let f = follows_all H (number_of a) calls in
     let k = length-map pages (leaf H) in
     let t : length (take n (map (leaf H) pages)) ≡ n = simp length-take (omega arith) in
-    (f.count-of-all ∙ ap length e ∙ t, f.root-of-all ∙ ap (root H) (e ∙ sym (leaves_nodes H (hash_length a) id pages all n le)))
+    (f.count_of_all ∙ ap length e ∙ t, f.root_of_all ∙ ap (root H) (e ∙ sym (leaves_nodes H (hash_length a) id pages all n le)))

@@ -3,12 +3,12 @@ use mathlib.Core.Path.{◌≡◌, refl, sym, ap, ◌∙◌}
 use mathlib.Core.Logic.{⊎_elim}
 use mathlib.Core.Bool.{Bool, true, false, false≢true, cond}
 use mathlib.Core.List.{List, [], ◌∷◌, ◌++◌, append_assoc}
-use Prim.Native.Nat.{ℕ, zero, suc, ◌*◌, ◌≤◌, ◌<◌}
+use Prim.Native.Nat.{ℕ, zero, suc, ◌*◌, ◌≤◌}
 use native.Mathlib.Omega.{arith}
 use lib.Dec.{ltb, eqb}
 use lib.ListN.{length, take, drop}
 use lib.Seq.{take_at, drop_at}
-use borrow.Author.Tests.{eqb-true, ltb-false, le-ltb}
+use borrow.Author.Tests.{ltb-false, le-ltb}
 use Rattle.hash.specs.declared.Algorithm.{Algorithm}
 use Rattle.hash.specs.declared.Named.{Named}
 use Rattle.hash.specs.declared.Named.TheVariants.{By, Unknown}
@@ -170,7 +170,7 @@ module _ (H : List ℕ → List ℕ) where
           enough m n r s p q a c =
               let i = inclusion_accepted H (H (0 ∷ page₁)) place m r p a in
               let k = consistency_accepted H m n r s q c in
-              let l = bounds.inclusion-largest place n (omega (arith, i.below, k.order)) k.in-range in
+              let l = bounds.inclusion_largest place n (omega (arith, i.below, k.order)) k.in_range in
               omega (arith, l)
 
   -- ---- the whole dispute
@@ -238,8 +238,8 @@ report_sound H page₁ page₂ alike pair w = w
 report_sound H page₁ page₂ (nodes s t) pair w =
     let z = drop (length (s ++ t)) pair in
     let g : (s ++ t) ++ z ≡ s ++ (t ++ z) = append_assoc s t z in
-    let a : take 65 ((s ++ t) ++ z) ≡ s = ap (take 65) g ∙ take_at s (t ++ z) 65 w.first-65 in
-    let b : take 65 (drop 65 ((s ++ t) ++ z)) ≡ t = ap (λ (x : List ℕ). take 65 (drop 65 x)) g ∙ ap (take 65) (drop_at s (t ++ z) 65 w.first-65) ∙ take_at t z 65 w.second-65 in
+    let a : take 65 ((s ++ t) ++ z) ≡ s = ap (take 65) g ∙ take_at s (t ++ z) 65 w.first_65 in
+    let b : take 65 (drop 65 ((s ++ t) ++ z)) ≡ t = ap (λ (x : List ℕ). take 65 (drop 65 x)) g ∙ ap (take 65) (drop_at s (t ++ z) 65 w.first_65) ∙ take_at t z 65 w.second_65 in
     rw (a, b) w.collision
 report_sound H page₁ page₂ pages pair w = w
 
@@ -287,8 +287,8 @@ demand3 calls before between rest n₁ n₂ place page₁ path₁ page₂ path�
     let y = plain (accepted between) in
     let z = plain (accepted rest) in
     let s = settles H (hash_length u.alg) page₁ place path₁ (last_size 0 (heads x)) (last_root [] (heads x)) (heads y) page₂ path₂ pair
-    (heads_fit H u.calls x y (answered (ask place page₂ path₂) 0 ∷ z) place page₁ path₁ u.as-run)
-    (demand H (hash_length u.alg) u.calls x y z place page₁ path₁ page₂ path₂ (length pair) u.as-run long) in
+    (heads_fit H u.calls x y (answered (ask place page₂ path₂) 0 ∷ z) place page₁ path₁ u.as_run)
+    (demand H (hash_length u.alg) u.calls x y z place page₁ path₁ page₂ path₂ (length pair) u.as_run long) in
     (u.one_number, of_number n₁ u.alg page₁ place path₁ _ _ _ page₂ path₂ pair u.named (rw (heads_accepted before, heads_accepted between) at s))
 
 -- from the page of one auditor to the page of another
@@ -312,8 +312,8 @@ one_way calls₁ calls₂ before₁ rest₁ before₂ rest₂ number place page�
     let r = last_root [] (heads (plain before₁)) in
     let n = last_size 0 (heads (plain before₂)) in
     let s = last_root [] (heads (plain before₂)) in
-    let a = rw (heads_accepted before₁) at (at_page H H32 u.calls (plain (accepted before₁)) (plain (accepted rest₁)) place page₁ path₁ u.as-run) in
-    let b = rw (heads_accepted before₂) at (at_page H H32 v.calls (plain (accepted before₂)) (plain (accepted rest₂)) place page₂ path₂ (rw same at v.as-run)) in
+    let a = rw (heads_accepted before₁) at (at_page H H32 u.calls (plain (accepted before₁)) (plain (accepted rest₁)) place page₁ path₁ u.as_run) in
+    let b = rw (heads_accepted before₂) at (at_page H H32 v.calls (plain (accepted before₂)) (plain (accepted rest₂)) place page₂ path₂ (rw same at v.as_run)) in
     let k : consistency_verdict H m n r s proof ≡ 0 = by_known number 16 (λ G. consistency_verdict G m n r s proof) u.alg (sym u.named) ∙ c in
     of_number number u.alg page₁ place path₁ m r _ page₂ path₂ pair u.named
     (settles H H32 page₁ place path₁ m r (then n s proof end) page₂ path₂ pair

@@ -139,14 +139,14 @@ shown : (H : List ℕ → List ℕ) (held : Held) (id : List ℕ) (time size : �
 unfolding by_record first against Tests other other_root outside
 shown H empty id time size root path n e f =
     let p = evident_passed H empty id time size root path n f (sym e) in
-    absurd (no (above empty n size root f) (first_most (outside size) (eqb (length path) 0)) p.by-record)
+    absurd (no (above empty n size root f) (first_most (outside size) (eqb (length path) 0)) p.by_record_lem)
   where
     no : 8 ≤ n → first size path ≤ 7 → first size path ≡ n → ⊥
     no a b c = omega arith
 shown H (head id₀ time₀ size₀ root₀) id time size root path n e f =
     let p = evident_passed H (head id₀ time₀ size₀ root₀) id time size root path n f (sym e) in
     let l = above (head id₀ time₀ size₀ root₀) n size root f in
-    let a = past (not (same id₀ id)) 11 _ n (not_11 (evident (head id₀ time₀ size₀ root₀) n size root f)) p.by-record in
+    let a = past (not (same id₀ id)) 11 _ n (not_11 (evident (head id₀ time₀ size₀ root₀) n size root f)) p.by_record_lem in
     let b = past (outside size || ltb size size₀) 6 _ n (λ q. omega arith) a.1 in
     let c = or_false (outside size) (ltb size size₀) b.0 in
     let d = or_false (eqb size 0) (ltb largest_size size) c.0 in
@@ -156,7 +156,7 @@ shown H (head id₀ time₀ size₀ root₀) id time size root path n e f =
       size₀ = size₀;
       root₀ = root₀;
       is_held = rw (same_true id₀ id (not-false _ a.0));
-      shows = by_number (omega arith) (ltb-false largest_size size d.1) (ltb-false size size₀ c.1) p.root-32 p.path-whole b.1 (evident (head id₀ time₀ size₀ root₀) n size root f);
+      shows = by_number (omega arith) (ltb-false largest_size size d.1) (ltb-false size size₀ c.1) p.root_32 p.path_whole b.1 (evident (head id₀ time₀ size₀ root₀) n size root f);
     }
   where
     not_11 : Number (head id₀ time₀ size₀ root₀) n size root → n ≡ 11 → ⊥
@@ -228,8 +228,8 @@ after_one held c n es number id time size root w =
       before = answered c n ∷ w.before;
       rest = w.rest;
       path = w.path;
-      was_offered = ap (λ (l : List Entry). answered c n ∷ l) w.was-offered;
-      was_shown = subst (λ (v : Held). Shown v number id time size root) (last_of (λ (x : List ℕ). x) held c n w.before) w.was-shown;
+      was_offered = ap (λ (l : List Entry). answered c n ∷ l) w.was_offered;
+      was_shown = subst (λ (v : Held). Shown v number id time size root) (last_of (λ (x : List ℕ). x) held c n w.before) w.was_shown;
     }
 
 module _ (number : ℕ) (id : List ℕ) (time size : ℕ) (root : List ℕ) where
@@ -292,12 +292,12 @@ evident_among es number id time size root w e = go (told number id time size roo
     go : (none ≡ refused_head number id time size root) ⊎ Among empty es number id time size root → Evident es number id time size root
     go (inl q) = absurd (not_none number id time size root q)
     go (inr a) =
-        let v = a.was-shown in
+        let v = a.was_shown in
         record {
           before = a.before;
           rest = a.rest;
           path = a.path;
-          was_offered = a.was-offered;
+          was_offered = a.was_offered;
           time₀ = v.time₀;
           size₀ = v.size₀;
           root₀ = v.root₀;

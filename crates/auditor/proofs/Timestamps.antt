@@ -71,15 +71,15 @@ module _ (H : List ℕ → List ℕ) where
       (omega arith, ltb-false largest_size size p.1)
   sized (head id₀ time₀ size₀ root₀) id time size root path e =
       let c = consistency_accepted H size₀ size root₀ root path (by_tests H id₀ time₀ size₀ root₀ id time size root path e).consistent in
-      (omega (arith, c.some, c.order), c.in-range)
+      (omega (arith, c.some, c.order), c.in_range)
 
   proper : (es : List Entry) (held : Held) → Runs H held es → Proper held → Proper (last_head held es)
   unfolding Proper Runs paper_number paper_after kept last_head
   proper [] held w p = p
   proper (answered (offer id time size root path) zero ∷ es) held w p =
       let q = passed H held id time size root path w.0 in
-      let s = sized held id time size root path q.by-record in
-      proper es (head id time size root) w.1 (q.id-least, q.id-most, q.root-32, s.0, s.1)
+      let s = sized held id time size root path q.by_record_lem in
+      proper es (head id time size root) w.1 (q.id_least, q.id_most, q.root_32, s.0, s.1)
   proper (answered (offer id time size root path) (suc n) ∷ es) held w p = proper es held w.1 p
   proper (answered (ask place page path) n ∷ es) held w p = proper es held w.1 p
 
@@ -99,7 +99,7 @@ held_proper calls =
     let es = answers empty_record calls in
     let u = one_hash_of calls in
     let H = hash_of u.alg in
-    let w : Runs H empty (plain (accepted es)) = rw u.runs.one-run at (runs H (calls_of es) empty) in
+    let w : Runs H empty (plain (accepted es)) = rw u.runs.one_run at (runs H (calls_of es) empty) in
     let p = proper H (plain (accepted es)) empty w tt in
     subst Proper (last_accepted es empty ∙ sym (held_is_accepted calls).0) p
 

@@ -8,7 +8,7 @@ use Rattle.tree.specs.Collision.{Collision}
 use Rattle.tree.specs.Verdict.{consistency_verdict}
 use Rattle.octets.specs.Answer.{Answer, done}
 use Rattle.auditor.specs.Held.{empty_record}
-use Rattle.auditor.specs.Heads.{Heads, end, then, last_size, last_root, joined_heads, heads_of}
+use Rattle.auditor.specs.Heads.{end, then, last_size, last_root, joined_heads, heads_of}
 use Rattle.auditor.specs.Dispute.{Ruling, dispute_by, dispute_report, pair_disputed}
 use Rattle.auditor.specs.Calls.{Call, ask, Entry, answered, Numbered, under, plain, answers, heads}
 use Rattle.carry.specs.Limits.{pair_bytes}

@@ -1,6 +1,6 @@
 -- The dispute about two pages that were accepted at one place: document 01, the last paragraph of 'Carrying forward and comparing', over any hash H.
 -- It is given nothing of the record. Assumes nothing: these are definitions.
-use Rattle.std.specs.Prelude.{◌≡◌, cond, List, ◌∷◌, ◌++◌, ℕ, ◌*◌, ltb, length, take, drop}
+use Rattle.std.specs.Prelude.{cond, List, ◌∷◌, ◌++◌, ℕ, ◌*◌, ltb, length}
 use Rattle.octets.specs.Limits.{most_item}
 use Rattle.hash.specs.Digest.{by_number}
 use Rattle.tree.specs.Limits.{most_nodes}

@@ -1,5 +1,5 @@
 -- The auditor's record: document 01, 'Auditor', and document 02, requests 7 and 8. Assumes nothing: these are definitions.
-use Rattle.std.specs.Prelude.{true, false, cond, List, ℕ, zero, suc, length, take, replicate}
+use Rattle.std.specs.Prelude.{true, false, cond, List, ℕ, length, take, replicate}
 use Rattle.octets.specs.Bytes.{over}
 use Rattle.hash.specs.declared.Named.{Named}
 use Rattle.hash.specs.Algorithm.{algorithm_of, held_by}

@@ -19,7 +19,7 @@ use tree::verdict::inclusion_verdict;
 
 // What a dispute answers: the pages are the same; two strings of nodes that differ and have one hash were written; the two pages, each with 0x00 before
 // it, differ and have one hash; or the number of a refusal.
-#[derive(Drop)]
+#[derive(Clone, Copy)]
 pub enum Settled {
     Same,
     Nodes,

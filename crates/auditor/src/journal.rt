@@ -11,7 +11,7 @@ use octets::{Width, put, put_number};
 const MOST_COUNT: usize = 65535;
 
 // What a journal answers: how many of its bytes are used after it, or the number of a refusal.
-#[derive(Drop)]
+#[derive(Clone, Copy)]
 pub enum Appended {
     Used(usize),
     Refused(u32),

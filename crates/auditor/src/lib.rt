@@ -3,6 +3,8 @@
 //
 // head: an offer    page: a call for a page    dispute: two pages at one place    heads: heads joined in a buffer    journal: one head more
 // bytes: a record's bytes    second: its second place
+#![tactic(auto)]
+
 mod bytes;
 pub mod dispute;
 pub mod head;
@@ -29,7 +31,7 @@ use hash::{Named, algorithm_held, algorithm_of};
 use second::no_evidence;
 
 // A head that was refused, with the number of its refusal; nothing, where that number is 0. Its log id is the first `idlen` bytes of `id`.
-#[derive(Drop)]
+#[derive(Clone, Copy)]
 pub struct Evidence {
     pub number: u32,
     pub id: [u8; 127],
@@ -41,7 +43,7 @@ pub struct Evidence {
 
 // Nothing, where `held` is false; else the head that was accepted last, and the number of the hash that every accepted call went by. Its log id is the
 // first `idlen` bytes of `id`. And a second place, on which nothing depends: the latest refused head that is evidence against the log.
-#[derive(Drop)]
+#[derive(Clone, Copy)]
 pub struct Record {
     pub held: bool,
     pub algorithm: u64,
@@ -54,7 +56,7 @@ pub struct Record {
 }
 
 // What a call answers: 0 or the number of its refusal, and the record after it.
-#[derive(Drop)]
+#[derive(Clone, Copy)]
 pub struct Answered {
     pub number: u32,
     pub after: Record,

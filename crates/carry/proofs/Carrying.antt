@@ -50,16 +50,16 @@ both H leaf place m n root₁ root₂ path proof e z f y =
     let a = inclusion_accepted H leaf place m root₁ path (sym e ∙ z) in
     let b = consistency_accepted H m n root₁ root₂ proof (sym f ∙ y) in
     record {
-      leaf_32 = a.leaf-32;
-      root_32 = a.root-32;
+      leaf_32 = a.leaf_32;
+      root_32 = a.root_32;
       below = a.below;
       order = b.order;
       path_count = omega (arith, a.counted);
       path_length = a.counted;
       proof_count = omega (arith, b.counted);
       proof_length = b.counted;
-      path_most = bounds.inclusion-largest place m a.below a.in-range;
-      proof_most = bounds.consistency-largest m n b.some b.order b.in-range;
+      path_most = bounds.inclusion_largest place m a.below a.in_range;
+      proof_most = bounds.consistency_largest m n b.some b.order b.in_range;
     }
 
 module _ (H : List ℕ → List ℕ) (leaf : List ℕ) (place m n : ℕ) (root₁ root₂ path proof : List ℕ) (room pair : ℕ) where
@@ -106,10 +106,10 @@ reports_path u o b e f h i g = rw (e, f, h, i, g) (refl, (refl, refl))
 -- what the code walked, of the bytes as they came
 module _ (H : List ℕ → List ℕ) (leaf : List ℕ) (place m n : ℕ) (root₁ path proof : List ℕ) (two : Both leaf place m n root₁ path proof) {h f : List ℕ} (eh : h ≡ hash_at 0 leaf) (ef : f ≡ hash_at 0 root₁) where
   pub difference_walked : {d : Difference} → d ≡ conflict H m n place h (first_nodes (length path / 32) path) f (first_nodes (length proof / 32) proof) → d ≡ conflict H m n place leaf (nodes path) root₁ (nodes proof)
-  difference_walked e = e ∙ rw (eh, ef, whole_hash leaf two.leaf-32, whole_hash root₁ two.root-32, nodes_first path, nodes_first proof)
+  difference_walked e = e ∙ rw (eh, ef, whole_hash leaf two.leaf_32, whole_hash root₁ two.root_32, nodes_first path, nodes_first proof)
 
   pub path_walked : {p : List (List ℕ)} → p ≡ forward H m n place (first_nodes (length path / 32) path) f (first_nodes (length proof / 32) proof) → p ≡ forward H m n place (nodes path) root₁ (nodes proof)
-  path_walked e = e ∙ rw (ef, whole_hash root₁ two.root-32, nodes_first path, nodes_first proof)
+  path_walked e = e ∙ rw (ef, whole_hash root₁ two.root_32, nodes_first path, nodes_first proof)
 
 joined_take : (k : ℕ) (s : List ℕ) → joined (first_nodes k s) ≡ take (32 * k) s
 unfolding first_nodes joined
@@ -166,12 +166,12 @@ module _ (H : List ℕ → List ℕ) (leaf : List ℕ) (place m n : ℕ) (root�
       let a = inclusion_accepted H leaf place m root₁ path e in
       let b = consistency_accepted H m n root₁ root₂ proof f in
       record {
-        leaf_32 = a.leaf-32;
-        old_32 = a.root-32;
-        new_32 = b.second-32;
+        leaf_32 = a.leaf_32;
+        old_32 = a.root_32;
+        new_32 = b.second_32;
         below = a.below;
         order = b.order;
-        in_range = b.in-range;
+        in_range = b.in_range;
         path_length = a.counted;
         proof_length = b.counted;
       }
@@ -181,8 +181,8 @@ module _ (H : List ℕ → List ℕ) (leaf : List ℕ) (place m n : ℕ) (root�
       (e₁ : one ≡ inclusion_root H place m h (first_nodes (length path / 32) path)) (e₂ : two ≡ old_root H m n true f (first_nodes (length proof / 32) proof)) (e₃ : whole ≡ new_root H m n true f (first_nodes (length proof / 32) proof)) where
     yielded : (one ≡ inclusion_root H place m leaf (nodes path)) × ((two ≡ old_root H m n true root₁ (nodes proof)) × (whole ≡ new_root H m n true root₁ (nodes proof)))
     yielded = (
-      e₁ ∙ rw (eh, whole_hash leaf fit.leaf-32, nodes_first path),
-      (e₂ ∙ rw (ef, whole_hash root₁ fit.old-32, nodes_first proof), e₃ ∙ rw (ef, whole_hash root₁ fit.old-32, nodes_first proof)),
+      e₁ ∙ rw (eh, whole_hash leaf fit.leaf_32, nodes_first path),
+      (e₂ ∙ rw (ef, whole_hash root₁ fit.old_32, nodes_first proof), e₃ ∙ rw (ef, whole_hash root₁ fit.old_32, nodes_first proof)),
     )
 
     pub agree_of : N₁ ≡ 0 → N₂ ≡ 0 → Agree one two whole root₁ root₂
@@ -190,29 +190,29 @@ module _ (H : List ℕ → List ℕ) (leaf : List ℕ) (place m n : ℕ) (root�
         let a = inclusion_accepted H leaf place m root₁ path v in
         let b = consistency_accepted H m n root₁ root₂ proof w in
         let y = yielded in
-        (y.0 ∙ a.yields, (y.1.0 ∙ b.yields-first, y.1.1 ∙ b.yields-second))
+        (y.0 ∙ a.yields, (y.1.0 ∙ b.yields_first, y.1.1 ∙ b.yields_second))
 
     pub accepted_by : Agree one two whole root₁ root₂ → (N₁ ≡ 0) × (N₂ ≡ 0)
     accepted_by g =
         let y = yielded in
         let i = fit.below in
         let j = fit.order in
-        let k = fit.in-range in (
+        let k = fit.in_range in (
           inclusion_accepts H leaf place m root₁ path record {
-            leaf_32 = fit.leaf-32;
-            root_32 = fit.old-32;
+            leaf_32 = fit.leaf_32;
+            root_32 = fit.old_32;
             below = fit.below;
             in_range = omega arith;
-            counted = fit.path-length;
+            counted = fit.path_length;
             yields = sym y.0 ∙ g.0;
           },
           consistency_accepts H m n root₁ root₂ proof record {
-            first_32 = fit.old-32;
-            second_32 = fit.new-32;
+            first_32 = fit.old_32;
+            second_32 = fit.new_32;
             some = omega arith;
             order = fit.order;
-            in_range = fit.in-range;
-            counted = fit.proof-length;
+            in_range = fit.in_range;
+            counted = fit.proof_length;
             yields_first = sym y.1.0 ∙ g.1.0;
             yields_second = sym y.1.1 ∙ g.1.1;
           },
@@ -259,7 +259,7 @@ module _ (H : List ℕ → List ℕ) (H32 : (s : List ℕ) → length (H s) ≡ 
         let t = both H leaf place m n root₁ root₂ path proof (sym e) refl (sym f) refl in
         let b = t.below in
         let o = t.order in
-        forward_sized H H32 n (omega arith) m true place leaf (nodes path) root₁ (nodes proof) t.below t.order (λ y. t.root-32) (all_nodes path) (all_nodes proof) (nodes_length path ∙ t.path-count) (nodes_length proof ∙ t.proof-count)
+        forward_sized H H32 n (omega arith) m true place leaf (nodes path) root₁ (nodes proof) t.below t.order (λ y. t.root_32) (all_nodes path) (all_nodes proof) (nodes_length path ∙ t.path_count) (nodes_length proof ∙ t.proof_count)
 
     shown : Right H (inclusion_root H place n leaf (forward H m n place (nodes path) root₁ (nodes proof))) (new_root H m n true root₁ (nodes proof)) (conflict H m n place leaf (nodes path) root₁ (nodes proof))
     shown =
@@ -268,7 +268,7 @@ module _ (H : List ℕ → List ℕ) (H32 : (s : List ℕ) → length (H s) ≡ 
         let c = consistency_accepted H m n root₁ root₂ proof f in
         let b = t.below in
         let o = t.order in
-        forward_sound H H32 n (omega arith) m true place leaf (nodes path) root₁ (nodes proof) t.below t.order t.leaf-32 (λ y. t.root-32) (all_nodes path) (all_nodes proof) (nodes_length path ∙ t.path-count) (nodes_length proof ∙ t.proof-count) (a.yields ∙ sym c.yields-first)
+        forward_sound H H32 n (omega arith) m true place leaf (nodes path) root₁ (nodes proof) t.below t.order t.leaf_32 (λ y. t.root_32) (all_nodes path) (all_nodes proof) (nodes_length path ∙ t.path_count) (nodes_length proof ∙ t.proof_count) (a.yields ∙ sym c.yields_first)
 
     again : conflict H m n place leaf (nodes path) root₁ (nodes proof) ≡ alike → inclusion_verdict H leaf place n root₂ (joined (forward H m n place (nodes path) root₁ (nodes proof))) ≡ 0
     again d =
@@ -279,12 +279,12 @@ module _ (H : List ℕ → List ℕ) (H32 : (s : List ℕ) → length (H s) ≡ 
         let o = t.order in
         let F = forward H m n place (nodes path) root₁ (nodes proof) in
         inclusion_accepts H leaf place n root₂ (joined F) record {
-          leaf_32 = t.leaf-32;
-          root_32 = c.second-32;
+          leaf_32 = t.leaf_32;
+          root_32 = c.second_32;
           below = omega arith;
-          in_range = c.in-range;
+          in_range = c.in_range;
           counted = joined_length F p.0 ∙ ap (λ (i : ℕ). 32 * i) p.1;
-          yields = ap (inclusion_root H place n leaf) (nodes_joined F p.0) ∙ alike_right _ _ _ d shown ∙ c.yields-second;
+          yields = ap (inclusion_root H place n leaf) (nodes_joined F p.0) ∙ alike_right _ _ _ d shown ∙ c.yields_second;
         }
       where
         alike_right : (y r : List ℕ) (d : Difference) → d ≡ alike → Right H y r d → y ≡ r
@@ -318,6 +318,6 @@ module _ (H : List ℕ → List ℕ) (H32 : (s : List ℕ) → length (H s) ≡ 
           let t = both H leaf place m n root₁ root₂ path proof (sym e) refl (sym f) refl in
           let b = t.below in
           long H leaf place m n root₁ root₂ path proof room pair (sym e) refl (sym f) refl r l
-          ∙ ap₂ forwarded (conflict_all H m n place leaf (nodes path) root₁ (nodes proof) (omega arith) i) (ap joined (forward_all H m n place leaf (nodes path) root₁ (nodes proof) (omega arith) i) ∙ joined_nodes (inclusion_count place m) path t.path-length);
+          ∙ ap₂ forwarded (conflict_all H m n place leaf (nodes path) root₁ (nodes proof) (omega arith) i) (ap joined (forward_all H m n place leaf (nodes path) root₁ (nodes proof) (omega arith) i) ∙ joined_nodes (inclusion_count place m) path t.path_length);
     };
   }

@@ -38,7 +38,7 @@ pub accepted_proof : (H : List ℕ → List ℕ) (leaf : List ℕ) (place n : �
     (length leaf ≡ 32) × (length root ≡ 32) × (place < n) × (length path ≡ 32 * inclusion_count place n) × (length path / 32 ≡ inclusion_count place n)
 accepted_proof H leaf place n root path e z =
     let a = inclusion_accepted H leaf place n root path (sym e ∙ z) in
-    (a.leaf-32, a.root-32, a.below, a.counted, omega (arith, a.counted))
+    (a.leaf_32, a.root_32, a.below, a.counted, omega (arith, a.counted))
 
 module _ (H : List ℕ → List ℕ) (place n : ℕ) (root leaf₁ path₁ leaf₂ path₂ : List ℕ) (room : ℕ) where
   abbrev C : Comparison
@@ -129,7 +129,7 @@ module _ (H : List ℕ → List ℕ) (H32 : (s : List ℕ) → length (H s) ≡ 
         let x = nodes_length path₁ in
         let y = nodes_length path₂ in
         let l = a.below in
-        differ_sound H H32 n (omega arith) place leaf₁ (nodes path₁) leaf₂ (nodes path₂) a.below a.leaf-32 b.leaf-32 (all_nodes path₁) (all_nodes path₂) (omega arith) (omega arith) (a.yields ∙ sym b.yields)
+        differ_sound H H32 n (omega arith) place leaf₁ (nodes path₁) leaf₂ (nodes path₂) a.below a.leaf_32 b.leaf_32 (all_nodes path₁) (all_nodes path₂) (omega arith) (omega arith) (a.yields ∙ sym b.yields)
 
   apart_shows : (h : List ℕ) (p : List (List ℕ)) (g : List ℕ) (q : List (List ℕ)) (d : Difference) (s t : List ℕ) → d ≡ apart s t → Shows H h p g q d → Collides H s t
   apart_shows h p g q d s t e w = rw e at w

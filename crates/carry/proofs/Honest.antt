@@ -320,7 +320,7 @@ module _ (H : List ℕ → List ℕ) where
           let k = taken_count m leaves b.1 in
           let t = taken_nodes m leaves b.1 in
           let size = nodes_length leaves in
-          let most = (consistency_accepted H m (length leaves / 32) _ _ c ((complete H H32).consistency leaves c m r₂ ec)).in-range in
+          let most = (consistency_accepted H m (length leaves / 32) _ _ c ((complete H H32).consistency leaves c m r₂ ec)).in_range in
           let at : get_or (nodes leaves) place [] ≡ node_at place leaves = ap (λ (y : List (List ℕ)). get_or y place []) (nodes_first leaves) ∙ at_first (length leaves / 32) place leaves d.0 in
           carry_at place m (root H (nodes leaves)) room pair at (sym (ap (root H) t)) size (ap (λ (y : List (List ℕ)). joined (path H place y)) (sym t) ∙ a.1) b.2 d.1
           (own_carried H H32 (nodes leaves) (all_nodes leaves) m place (let i = a.0 in omega arith) (omega arith) (omega arith) room pair (let j = ap length d.1 in omega arith) l);

@@ -247,10 +247,10 @@ module _ (H : List ℕ → List ℕ) where
     compares = compares;
     carries = carries;
     compared = λ place size claimed leaf₁ path₁ leaf₂ path₂ pair s t e.
-        let a = compare.collision-of-accepted H place size claimed leaf₁ path₁ leaf₂ path₂ pair s t e in
+        let a = compare.collision_of_accepted H place size claimed leaf₁ path₁ leaf₂ path₂ pair s t e in
         ((compares place size leaf₁ (nodes path₁) leaf₂ (nodes path₂)).topmost s t).0 a.1.1;
     carried = λ leaf place m n claimed₁ claimed₂ path proof room pair s t e.
-        let a = carry.collision-of-accepted H leaf place m n claimed₁ claimed₂ path proof room pair s t e in
+        let a = carry.collision_of_accepted H leaf place m n claimed₁ claimed₂ path proof room pair s t e in
         let i = inclusion_accepted H leaf place m claimed₁ path a.0 in
         let c = consistency_accepted H m n claimed₁ claimed₂ proof a.1.0 in
         let lt = apart_later m n place leaf (nodes path) claimed₁ (nodes proof) s t i.below c.order a.1.1 in

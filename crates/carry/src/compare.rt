@@ -17,7 +17,7 @@ use tree::split::split_of;
 use tree::verdict::inclusion_verdict;
 
 // What a comparison answers.
-#[derive(Drop)]
+#[derive(Clone, Copy)]
 pub enum Compared {
     Same,
     Collision,

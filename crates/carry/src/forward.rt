@@ -16,7 +16,7 @@ use tree::nodes::node_at;
 use tree::verdict::{consistency_verdict, inclusion_verdict};
 
 // What a carrying answers: how many bytes of path it wrote, that it wrote a collision, or the number of its refusal.
-#[derive(Drop)]
+#[derive(Clone, Copy)]
 pub enum Carried {
     Path(usize),
     Collision,

@@ -9,7 +9,7 @@ use hash::{Algorithm, Digest};
 use tree::nodes::equals;
 
 // The roots that two proofs yield; and whether child pairs differ below them, with the topmost two that do: a, b and c, d.
-#[derive(Drop)]
+#[derive(Clone, Copy)]
 pub(crate) struct Recomputed {
     pub one: Digest,
     pub two: Digest,

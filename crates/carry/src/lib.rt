@@ -1,6 +1,8 @@
 // Carrying an inclusion proof forward and comparing two, document 01, 'Carrying forward and comparing': a proof at an old size becomes a
 // proof at a new size, or two strings with one hash are handed over. specs/ has the definitions over any hash; proofs/ has the laws that
 // crates above may cite.
+#![tactic(auto)]
+
 pub mod by_number; // the entries: both by the number of a hash
 pub mod compare; // two inclusion proofs for one place, size and root
 pub mod forward; // an inclusion proof, by a consistency proof to a larger size

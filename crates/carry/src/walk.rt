@@ -15,7 +15,7 @@ use tree::yields::{yielded_root, yielded_roots};
 
 // What was recomputed of the inclusion proof and of the consistency path, up to the old root that each yields; the new root; and the new path: `low` nodes of
 // the old one, the sibling if `hashed` is 1, and the nodes of the consistency path from `high` on.
-#[derive(Drop)]
+#[derive(Clone, Copy)]
 pub(crate) struct Walked {
     pub recomputed: Recomputed,
     pub new: Digest,

@@ -2,6 +2,7 @@
 // writes nothing more.
 use crate::cut::part;
 use crate::request::MEMORY;
+use itoa::Buffer;
 
 // Room for two digits for each byte of the memory, and some numbers.
 pub(crate) const LINE: usize = 2 * MEMORY + 512;
@@ -10,7 +11,7 @@ pub(crate) type Line = [u8; LINE];
 
 // What an entry answers: a number for each of at most `count` words, and three strings of bytes that it left in the lent buffer, one from the start up to
 // `mid`, one from there up to `end`, one from there up to `last`. The entry's letters say what is written.
-#[derive(Drop)]
+#[derive(Clone, Copy)]
 pub(crate) struct Answer {
     pub(crate) count: usize,
     pub(crate) number: [u64; 12],
@@ -63,8 +64,9 @@ pub(crate) fn then(given: Answer, n: u64) -> Answer {
 
 // Puts bytes at the start of a buffer, where it has room for them.
 pub(crate) fn keep(s: &[u8], lent: &mut [u8]) {
-    if s.len() <= lent.len() {
-        bytes::copy(s, lent);
+    let n = s.len();
+    if n <= lent.len() {
+        lent[..n].copy_from_slice(s);
     }
 }
 
@@ -139,9 +141,8 @@ fn put_bytes(out: &mut Line, at: usize, s: &[u8]) -> usize {
 }
 
 fn put_number(out: &mut Line, at: usize, n: u64) -> usize {
-    let mut text = [0u8; 20];
-    let k = io::decimal(n, &mut text);
-    put_text(out, at, &text[..k])
+    let mut text = Buffer::new();
+    put_text(out, at, text.format(n).as_bytes())
 }
 
 // The bytes of a letter: the buffer that the request lends (l), or the first (m), second (p) or third (q) string of the answer.

@@ -12,7 +12,7 @@ use auditor::{Answered, Evidence, Record};
 fn id_from(s: &[u8]) -> [u8; 127] {
     let mut b = [0u8; 127];
     if s.len() == 127 {
-        bytes::copy(s, &mut b);
+        b.copy_from_slice(s);
     }
     b
 }

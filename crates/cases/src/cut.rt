@@ -30,7 +30,10 @@ pub(crate) fn seek(s: &[u8], from: usize, to: usize, b: u8) -> usize
     if to > s.len() {
         return to;
     }
-    bytes::scan::find(s, from, to, b)
+    match s[from..to].iter().position(|x| *x == b) {
+        Some(i) => from + i,
+        None => to,
+    }
 }
 
 fn space(b: u8) -> usize

@@ -11,7 +11,7 @@ use words::{State, Stepped};
 pub(crate) fn hash_from(s: &[u8]) -> [u8; 32] {
     let mut b = [0u8; 32];
     if s.len() == 32 {
-        bytes::copy(s, &mut b);
+        b.copy_from_slice(s);
     }
     b
 }

@@ -1,6 +1,7 @@
 // The lines of standard input, each as soon as it is there.
 use crate::cut::{left, part, seek};
-use libc::STDIN_FILENO;
+use std::io;
+use std::io::Read;
 
 // Room for a line, and for what was read behind it.
 pub(crate) const TEXT: usize = 262144;
@@ -9,7 +10,7 @@ pub(crate) type Text = [u8; TEXT];
 
 // What was read and is not answered yet lies in the text from `from` up to `have`. Where `whole` is true it starts with a line, whose line feed is at
 // `to`; else there is no line feed before `to`. A line is `lost` where it is too long for the text, or where the input `ended` in it.
-#[derive(Drop)]
+#[derive(Clone, Copy)]
 pub(crate) struct Input {
     pub(crate) from: usize,
     pub(crate) to: usize,
@@ -83,13 +84,12 @@ fn room(text: &mut Text, p: Input) -> Input {
 }
 
 // Reads once into the text after its first `have` bytes, and answers how many it has then.
-fn fill(text: &mut [u8], have: usize) -> usize {
+fn fill(stdin: &mut impl Read, text: &mut [u8], have: usize) -> io::Result<usize> {
     if have > text.len() {
-        return have;
+        return Ok(have);
     }
-    let space = &mut text[have..];
-    let got = libc::read(STDIN_FILENO, space);
-    have + io::count(got, space)
+    let got = stdin.read(&mut text[have..])?;
+    Ok(have + got)
 }
 
 // At the end of the input: what is left of it is a line that was cut off.
@@ -104,18 +104,18 @@ fn end(p: Input) -> Input {
 }
 
 // The line after a line, the first after `start()`, where the text has it whole; else the text gets more of it.
-pub(crate) fn next(text: &mut Text, p: Input) -> Input {
+pub(crate) fn next(stdin: &mut impl Read, text: &mut Text, p: Input) -> io::Result<Input> {
     let mut r = rest(p);
     r.to = seek(text, r.to, r.have, b'\n');
     if r.to < r.have {
         r.whole = true;
-        return r;
+        return Ok(r);
     }
     r = room(text, r);
     r.to = r.have;
-    r.have = fill(text, r.have);
+    r.have = fill(stdin, text, r.have)?;
     if r.have == r.to {
-        return end(r);
+        return Ok(end(r));
     }
-    r
+    Ok(r)
 }

@@ -17,7 +17,7 @@ pub(crate) const LENT: usize = 10;
 
 // Number i is number[i], in the order of the words, and string i the bytes of the memory from from[i] up to to[i]; so far there are `numbers` and
 // `strings` of them, and the memory is in use up to `used`. It `lends` where one of the words is a lent buffer. Not good where the line is no request.
-#[derive(Drop)]
+#[derive(Clone, Copy)]
 pub(crate) struct Request {
     pub(crate) good: bool,
     pub(crate) lends: bool,
@@ -159,7 +159,7 @@ pub(crate) fn field(r: Request, i: usize, mem: &[u8]) -> &[u8] {
 }
 
 // The numbers of a request, in the order of its words.
-#[derive(Drop)]
+#[derive(Clone, Copy)]
 pub(crate) struct Numbers {
     pub(crate) a: u64,
     pub(crate) b: u64,
@@ -199,7 +199,7 @@ pub(crate) fn lend_to<'a>(s: &[u8], lent: &'a mut [u8]) -> &'a mut [u8] {
     if n > lent.len() {
         return &mut lent[..0];
     }
-    bytes::copy(s, lent);
+    lent[..n].copy_from_slice(s);
     &mut lent[..n]
 }
 

@@ -48,7 +48,7 @@ pub(crate) fn row<'a>(rows: &'a [u8], name: &[u8]) -> &'a [u8] {
     while 0 < left {
         let to = seek(rows, from, rows.len(), b'\n');
         let row = part(rows, from, to);
-        if check::same(word(row, 0), name) {
+        if word(row, 0) == name {
             return row;
         }
         if to >= rows.len() {

@@ -7,7 +7,7 @@ use crate::request::{MEMORY, Memory};
 // No place of a memory.
 pub(crate) const NOWHERE: usize = usize::MAX;
 
-#[derive(Drop)]
+#[derive(Clone, Copy)]
 pub(crate) struct Number {
     pub(crate) good: bool,
     pub(crate) value: u64,

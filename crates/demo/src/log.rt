@@ -11,7 +11,7 @@ use tree::by_number::{consistency_path, inclusion_path};
 pub(crate) const HASH: u64 = 0x00;
 
 // The tree of `size` pages, and their leaf hashes, joined; the number of the first refusal, or 0.
-#[derive(Drop)]
+#[derive(Clone, Copy)]
 pub struct Log {
     pub number: u32,
     pub size: usize,
@@ -20,7 +20,7 @@ pub struct Log {
 }
 
 // A head without its signature.
-#[derive(Drop)]
+#[derive(Clone, Copy)]
 pub struct Head {
     pub number: u32,
     pub timestamp: u64,

@@ -4,6 +4,7 @@ use crate::say::{count, words};
 use fields::layout::Part;
 use fields::writing::Written;
 use item::{Item, Numbers};
+use std::io;
 
 const PAGE: u16 = 0xF001;
 
@@ -57,22 +58,28 @@ pub(crate) fn page(agreement: u64, page: u16, body: &[u8]) -> Made {
     made(written, bytes)
 }
 
-fn tell_fields(bytes: &[u8], agreement: Part, page: Part, body: Part) -> u32 {
-    count(b"  agreement ", agreement.value);
-    count(b", page ", page.value);
-    words(b": ");
-    words(part(bytes, body.start, body.len));
-    words(b"\n");
-    0
+fn tell_fields(
+    rt: &impl Print,
+    bytes: &[u8],
+    agreement: Part,
+    page: Part,
+    body: Part,
+) -> io::Result<u32> {
+    count(rt, b"  agreement ", agreement.value)?;
+    count(rt, b", page ", page.value)?;
+    words(rt, b": ")?;
+    words(rt, part(bytes, body.start, body.len))?;
+    words(rt, b"\n")?;
+    Ok(0)
 }
 
-fn no_page() -> u32 {
-    words(b"  UNEXPECTED: this is no page\n");
-    4
+fn no_page(rt: &impl Print) -> io::Result<u32> {
+    words(rt, b"  UNEXPECTED: this is no page\n")?;
+    Ok(4)
 }
 
 // Prints what stands on a page, as the reader of items finds it. 4: it is no page.
-pub(crate) fn tell(page: &[u8]) -> u32 {
+pub(crate) fn tell(rt: &impl Print, page: &[u8]) -> io::Result<u32> {
     let found = item::read(page);
     match found {
         Item::Page {
@@ -81,7 +88,7 @@ pub(crate) fn tell(page: &[u8]) -> u32 {
             agreement,
             page: sheet,
             body,
-        } => tell_fields(page, agreement, sheet, body),
-        _ => no_page(),
+        } => tell_fields(rt, page, agreement, sheet, body),
+        _ => no_page(rt),
     }
 }

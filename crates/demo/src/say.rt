@@ -1,69 +1,65 @@
 // Words, numbers and hashes on standard output, and what a call answered in words.
-use libc::STDOUT_FILENO;
+use std::io;
 
-pub(crate) fn words(text: &[u8]) {
-    io::write_all(STDOUT_FILENO, text);
+pub(crate) fn words(rt: &impl Print, text: &[u8]) -> io::Result<()> {
+    rt.write_all(text)
 }
 
 // Words, and a number.
-pub(crate) fn count(text: &[u8], n: u64) {
-    io::write_all(STDOUT_FILENO, text);
-    io::print_decimal(STDOUT_FILENO, n);
+pub(crate) fn count(rt: &impl Print, text: &[u8], n: u64) -> io::Result<()> {
+    rt.write_all(text)?;
+    print!(rt; "{n}")
 }
 
 // Words, and the first 8 bytes of a hash.
-pub(crate) fn short(text: &[u8], hash: &[u8]) {
-    io::write_all(STDOUT_FILENO, text);
-    io::print_hex(
-        STDOUT_FILENO,
-        octets::number_at(hash, 0, octets::Width::Eight),
-        16,
-    );
+pub(crate) fn short(rt: &impl Print, text: &[u8], hash: &[u8]) -> io::Result<()> {
+    rt.write_all(text)?;
+    let n = octets::number_at(hash, 0, octets::Width::Eight);
+    print!(rt; "{n:016x}")
 }
 
 // What the number of a refusal means. An auditor's answers are here; README.md has all.
-fn meaning(n: u32) {
+fn meaning(rt: &impl Print, n: u32) -> io::Result<()> {
     match n {
-        6 => words(b" (a size or place out of range, or a smaller tree)"),
-        7 => words(b" (wrong count of nodes)"),
-        8 => words(b" (a root disagrees)"),
-        11 => words(b" (other log)"),
-        12 => words(b" (no later timestamp)"),
-        13 => words(b" (same size, other root)"),
-        14 => words(b" (no head yet)"),
-        _ => words(b" (see README.md)"),
+        6 => words(rt, b" (a size or place out of range, or a smaller tree)"),
+        7 => words(rt, b" (wrong count of nodes)"),
+        8 => words(rt, b" (a root disagrees)"),
+        11 => words(rt, b" (other log)"),
+        12 => words(rt, b" (no later timestamp)"),
+        13 => words(rt, b" (same size, other root)"),
+        14 => words(rt, b" (no head yet)"),
+        _ => words(rt, b" (see README.md)"),
     }
 }
 
 // Words, and 0 or the number of a refusal.
-pub(crate) fn verdict(text: &[u8], n: u32) {
-    words(text);
+pub(crate) fn verdict(rt: &impl Print, text: &[u8], n: u32) -> io::Result<()> {
+    words(rt, text)?;
     if n == 0 {
-        words(b"accepted");
-        return;
+        return words(rt, b"accepted");
     }
-    count(b"refused, ", n as u64);
-    meaning(n);
+    count(rt, b"refused, ", n as u64)?;
+    meaning(rt, n)
 }
 
 // Ends a line with what a call answered, and says whether that was expected.
-pub(crate) fn answer(n: u32, expected: u32) -> bool {
-    verdict(b": ", n);
-    words(b"\n");
+pub(crate) fn answer(rt: &impl Print, n: u32, expected: u32) -> io::Result<bool> {
+    verdict(rt, b": ", n)?;
+    words(rt, b"\n")?;
     if n == expected {
-        return true;
+        return Ok(true);
     }
-    verdict(b"  UNEXPECTED: the answer should be: ", expected);
-    words(b"\n");
-    false
+    verdict(rt, b"  UNEXPECTED: the answer should be: ", expected)?;
+    words(rt, b"\n")?;
+    Ok(false)
 }
 
 // Whether what the archive made was not refused.
-pub(crate) fn made(n: u32) -> bool {
+pub(crate) fn made(rt: &impl Print, n: u32) -> io::Result<bool> {
     if n == 0 {
-        return true;
+        return Ok(true);
     }
-    verdict(b"  UNEXPECTED: what the archive hands over was ", n);
-    words(b"\n");
-    false
+    verdict(rt, b"  UNEXPECTED: what the archive hands over was ", n)?;
+    words(rt, b"\n")?;
+    Ok(false)
 }

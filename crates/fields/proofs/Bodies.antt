@@ -12,7 +12,7 @@ use Rattle.fields.specs.declared.layout.Inner.{Inner}
 use Rattle.fields.specs.declared.layout.Inner.TheVariants.{Opaque, ExtensionList, NodeList}
 use Rattle.fields.specs.declared.layout.Step.{Step}
 use Rattle.fields.specs.declared.layout.Step.TheVariants.{Size, Not}
-use Rattle.fields.specs.declared.layout.Inside.TheVariants.{Fine, Wrong}
+use Rattle.fields.specs.declared.layout.Inside.TheVariants.{Fine}
 use Rattle.fields.specs.Layout.{element, elements, inside_from, inside, past}
 use Rattle.fields.proofs.Answers.{wrong_fine}
 use Rattle.fields.specs.Write.{prefixed, stripped, wrap, unwrap, body_size, wholes}

@@ -8,6 +8,7 @@ use lib.Seq.{take_at}
 use borrow.Author.Tests.{le-ltb}
 use contract.Lifetimes.{Lfts}
 use denote.Ref.{Bor}
+use denote.MutBor.{MutBor}
 use Rattle.fields.specs.declared.layout.Part.{Part}
 use Rattle.fields.specs.declared.writing.Written.{Written}
 use Rattle.fields.specs.declared.writing.Written.TheVariants.{Length, Refused as refused_at}
@@ -19,14 +20,14 @@ use Rattle.fields.proofs.Lent.{was_put}
 use Rattle.fields.proofs.path.path_into.Reads as path-reads
 
 -- the copy of a path, with the lent bytes before and after
-pub record Copies (s : Bor (List ℕ)) (p : Part) (out out' : Bor (List ℕ)) (a : Written) : Type 0 where
+pub record Copies (s : Bor (List ℕ)) (p : Part) (out out' : MutBor (List ℕ)) (a : Written) : Type 0 where
   pub lives : Lfts 2
   pub learnt : path-reads.Learnt lives (s, (p, (out, tt))) a (s, (p, (out', tt)))
 
 -- a path as a caller has it: the first bytes of what `path_into` was lent, as many as it answered
 pub record Through (s : Bor (List ℕ)) (p : Part) (w : List ℕ) : Type 0 where
-  pub out : Bor (List ℕ)
-  pub after : Bor (List ℕ)
+  pub out : MutBor (List ℕ)
+  pub after : MutBor (List ℕ)
   pub count : ℕ
   pub copies : Copies s p out after (Length count)
   pub is : w ≡ take count after.now
@@ -34,7 +35,7 @@ pub record Through (s : Bor (List ℕ)) (p : Part) (w : List ℕ) : Type 0 where
 -- whatever `path_into` answers where the lent bytes are long enough, it has copied this path
 abbrev pub Comes : Bor (List ℕ) → Part → List ℕ → Type 0
 Comes s p w =
-    (out after : Bor (List ℕ)) (a : Written) → Copies s p out after a → length w ≤ length out.now → (a ≡ Length (length w)) × (after.now ≡ w ++ drop (length w) out.now)
+    (out after : MutBor (List ℕ)) (a : Written) → Copies s p out after a → length w ≤ length out.now → (a ≡ Length (length w)) × (after.now ≡ w ++ drop (length w) out.now)
 
 pub written_length : (a : Written) (m : ℕ) → writing a ≡ good m → a ≡ Length m
 written_length (Length n) m e = ap Length (same_good n m e)
@@ -61,6 +62,9 @@ copied_comes s p w e = wrote_comes s p w (λ out fit. rw (e, le-ltb _ _ fit))
 unfoldable pub ref : List ℕ → Bor (List ℕ)
 ref l = record { ref_ptr = (0, 0); now = l }
 
+unfoldable pub mut_ref : List ℕ → MutBor (List ℕ)
+mut_ref l = record { ref_ptr = (0, 0); ghost_name = 0; now = l }
+
 unfoldable pub answer_of : Checked ℕ → Written
 answer_of (good n) = Length n
 answer_of (bad x at) = refused_at x at
@@ -71,23 +75,23 @@ answer_is (good n) = refl
 answer_is (bad x at) = refl
 
 pub copied_through : (s : List ℕ) (p : Part) (w : List ℕ) → path_at s p ≡ good w → Through (ref s) p w
-unfolding copy_path ref
+unfolding copy_path ref mut_ref
 copied_through s p w e =
     let l : length w ≤ length w = omega arith in
     let q : copy_path s p w ≡ wrote w w = rw (e, le-ltb _ _ l) in
     record {
-      out = ref w;
-      after = ref (copy_path s p w).bytes;
+      out = mut_ref w;
+      after = mut_ref (copy_path s p w).bytes;
       count = length w;
       copies = record { lives = ([], ([], tt)); learnt = (sym (ap (λ (o : Effect). o.answer) q), refl) };
       is = sym (ap (λ (o : Effect). take (length w) o.bytes) q ∙ take_at w (drop (length w) w) (length w) refl);
     }
 
 pub comes_copied : (s : List ℕ) (p : Part) (w : List ℕ) → Comes (ref s) p w → path_at s p ≡ good w
-unfolding copy_path ref
+unfolding copy_path ref mut_ref
 comes_copied s p w c =
     let a = (copy_path s p w).answer in
-    let r = c (ref w) (ref (copy_path s p w).bytes) (answer_of a) (record { lives = ([], ([], tt)); learnt = (answer_is a, refl) }) (omega arith) in
+    let r = c (mut_ref w) (mut_ref (copy_path s p w).bytes) (answer_of a) (record { lives = ([], ([], tt)); learnt = (answer_is a, refl) }) (omega arith) in
     let b = was_put (path_at s p) w (length w) (sym (answer_is a) ∙ ap writing r.0) in
     let z : b.bytes ≡ w = sym (take_at b.bytes (drop (length w) w) (length w) (sym b.size)) ∙ ap (take (length w)) (sym b.after ∙ r.1) ∙ take_at w (drop (length w) w) (length w) refl in
     b.is ∙ ap good z

@@ -19,7 +19,7 @@ use Rattle.fields.specs.declared.layout.Step.TheVariants.{Size, Not}
 use Rattle.fields.specs.declared.layout.Inside.{Inside}
 use Rattle.fields.specs.declared.layout.Inside.TheVariants.{Fine, Wrong}
 use Rattle.fields.specs.Checked.{Checked, good, bad}
-use Rattle.fields.specs.Layout.{out_of_order, element, elements, inside_from, inside, past, whole, vector_at, field, next, push, read}
+use Rattle.fields.specs.Layout.{out_of_order, element, elements, inside_from, inside, past, whole, number_at, fixed_at, vector_at, field, next, push, read}
 use Rattle.fields.proofs.Answers.{good_bad, same_number}
 use Rattle.fields.proofs.Founds.{number_refused, one_of_refused, fixed_refused}
 
@@ -69,9 +69,9 @@ numbered (Bad x y) h = h x y refl
 
 field_numbered : (f : Field) (r : List ℕ) (at : ℕ) → NumberedField (field f r at)
 unfolding vector_at inside inside_from
-field_numbered (Uint w) r at = numbered _ (λ x y e. omega (arith, (number_refused (width_of w) r at x y e).0))
+field_numbered (Uint w) r at = numbered (number_at (width_of w) r at) (λ x y e. omega (arith, (number_refused (width_of w) r at x y e).0))
 field_numbered (OneOf w least most) r at = numbered _ (λ x y e. (one_of_refused (width_of w) least most r at x y e).0)
-field_numbered (Fixed n) r at = numbered _ (λ x y e. omega (arith, (fixed_refused n r at x y e).0))
+field_numbered (Fixed n) r at = numbered (fixed_at n r at) (λ x y e. omega (arith, (fixed_refused n r at x y e).0))
 field_numbered (Vector width least most i) r at =
     let w = width_of width in
     let n = unbe (take w r) in

@@ -1,14 +1,11 @@
 -- Bytes put one after the other. Assumes nothing.
-use mathlib.Core.Path.{◌≡◌, refl, ap, sym, subst, ◌∙◌}
-use mathlib.Core.List.{List, [], ◌∷◌, ◌++◌, append_assoc}
-use Prim.Native.Nat.{ℕ, zero, suc, ◌+◌, ◌-◌, ◌*◌, ◌%◌, ◌^◌, ◌≤◌, ◌<◌}
+use mathlib.Core.Path.{◌≡◌, refl, ap, sym, ◌∙◌}
+use mathlib.Core.List.{List, [], ◌∷◌, ◌++◌}
+use Prim.Native.Nat.{ℕ, zero, suc, ◌+◌, ◌-◌, ◌*◌, ◌≤◌, ◌<◌}
 use native.Mathlib.Omega.{arith}
-use native.Mathlib.Numerals.{add-one}
-use native.Mathlib.Nat.{add_assoc, suc-add, zero-add, pow-le-pow_right, mod-eq_of_lt, lt_of_lt_of_le}
-use lib.ListN.{length, get_or, take, drop, set, length-append, length-drop, take-append-drop}
-use lib.Seq.{drop-length, take_at, drop_at, drop-append-add, drop-drop, take-add, set_split, length-take-le, take-length}
+use lib.ListN.{length, get_or, take, drop, length-append, length-drop}
+use lib.Seq.{drop-length, drop_at, drop-drop, length-take-le}
 use Rattle.fields.specs.Checked.{Checked, good, bad, then}
-use Rattle.octets.specs.Numbers.{be}
 use Rattle.fields.specs.Write.{prefixed, Value, fill, laid, Filled, join, write}
 use Rattle.fields.specs.declared.layout.Field.{Field}
 use Rattle.fields.proofs.Fills.{fill_laid}

@@ -14,7 +14,6 @@ use Rattle.octets.specs.declared.number.Width.TheVariants.{One}
 use Rattle.fields.specs.declared.layout.FieldRead.TheVariants.{Found, Bad}
 use Rattle.fields.specs.Checked.{Checked, good, bad}
 use Rattle.fields.specs.Layout.{field, next, push, read, found_then, parts_found}
-use Rattle.fields.specs.declared.reading.LayoutRead.{LayoutRead}
 use Rattle.fields.specs.Answers.{no_part, no_parts, with_zeros, layout_read}
 
 -- the first n elements of an array, by their places

@@ -9,18 +9,16 @@ use lib.Dec.{ltb}
 use lib.Seq.{drop_at, drop-drop}
 use borrow.Author.Tests.{le-ltb, ltb-false}
 use Rattle.fields.specs.declared.layout.Part.{Part}
-use Rattle.fields.specs.declared.layout.Field.{Field}
 use Rattle.fields.specs.declared.layout.FieldRead.{FieldRead}
 use Rattle.fields.specs.declared.layout.FieldRead.TheVariants.{Found, Bad}
 use Rattle.fields.specs.Checked.{Checked, good, bad, then}
-use Rattle.octets.specs.Bytes.{Bytes}
 use Rattle.fields.specs.Layout.{field, next, push, read}
 use Rattle.fields.specs.Inner.{part}
 use Rattle.fields.specs.Write.{fill, Filled, join, write, values, Value}
 use Rattle.fields.proofs.Elements.{part_length}
 use Rattle.fields.proofs.Founds.{found_within}
 use Rattle.fields.proofs.Answers.{bad_good, same_good}
-use Rattle.fields.specs.Claims.{LayoutAgain, LayoutBack, AllTyped, no_fields, one_field, layout, ReadBack}
+use Rattle.fields.specs.Claims.{LayoutAgain, LayoutBack, one_field, layout, ReadBack}
 use Rattle.fields.proofs.Vectors.{kept, fill_again}
 
 parts_left : (s : List ℕ) (at end : ℕ) → at ≤ end → part s at end ++ drop end s ≡ drop at s

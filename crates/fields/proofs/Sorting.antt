@@ -23,7 +23,6 @@ use Rattle.fields.specs.declared.layout.Inside.{Inside}
 use Rattle.fields.specs.declared.layout.Inside.TheVariants.{Fine, Wrong}
 use Rattle.fields.specs.Checked.{Checked, good, bad}
 use Rattle.fields.specs.Layout.{inside, vector_at, field, whole, next, push, read, found_then, parts_found, bytes_at}
-use Rattle.fields.specs.Write.{fine}
 use Rattle.fields.specs.Extensions.{Extended, OutOfOrder, unordered, FifteenInList, ListOutOfOrder, FieldInOrder, InOrder, ReadByOrder, OrderFirst}
 use Rattle.fields.proofs.Answers.{bad_good, good_bad, same_good, same_place, same_number}
 use Rattle.fields.proofs.Places.{inside_some}

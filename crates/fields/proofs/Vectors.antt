@@ -15,7 +15,7 @@ use Rattle.fields.specs.declared.layout.FieldRead.TheVariants.{Found, Bad}
 use Rattle.fields.specs.declared.layout.Inside.TheVariants.{Fine}
 use Rattle.fields.specs.Checked.{good}
 use Rattle.octets.specs.Bytes.{Bytes, no_bytes, one_byte}
-use Rattle.fields.specs.Layout.{bytes_at, inside, whole, number_at, vector_at, allowed, one_of_at, fixed_at, field}
+use Rattle.fields.specs.Layout.{bytes_at, inside, whole, number_at, vector_at, allowed, one_of_at, fixed_at}
 use Rattle.octets.specs.declared.number.Width.{Width}
 use Rattle.octets.specs.Numbers.{width_of, unbe, be}
 use Rattle.fields.specs.Inner.{part}

@@ -16,7 +16,7 @@ use Rattle.fields.specs.declared.layout.FieldRead.{FieldRead}
 use Rattle.fields.specs.declared.layout.FieldRead.TheVariants.{Found, Bad}
 use Rattle.fields.specs.Checked.{Checked, good, bad}
 use Rattle.fields.specs.Layout.{inside, field, next, push, read, found_then, parts_found, bytes_at}
-use Rattle.fields.specs.Claims.{Each, Met, FoundBefore, FieldsWithin, RefusedWithin}
+use Rattle.fields.specs.Claims.{Each, Met, FoundBefore}
 use Rattle.fields.proofs.Answers.{bad_good, good_bad, same_good, same_place, same_number}
 use Rattle.fields.proofs.Founds.{found_vector, found_within, found_after, refused_at_lem}
 

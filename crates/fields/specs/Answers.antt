@@ -1,5 +1,5 @@
 -- What reading a layout answers: the parts that were found, in the layout's order, and the refusal if there is one. Assumes nothing.
-use Rattle.std.specs.Prelude.{ℕ, List, [], ◌∷◌, ◌++◌, length, drop}
+use Rattle.std.specs.Prelude.{List, [], ◌∷◌, ◌++◌, length, drop}
 use Rattle.fields.specs.declared.layout.Part.{Part}
 use Rattle.fields.specs.declared.reading.LayoutRead.{LayoutRead}
 use Rattle.fields.specs.Checked.{Checked, good, bad}

@@ -7,7 +7,7 @@ ghost use Rattle.fields.specs.Inner.{part};
 use octets::{Width, number_at, width_of};
 
 // Where a field lies, past its length prefix if it has one, and the number read there: a number's value, a vector's length, that of fixed bytes.
-#[derive(Drop)]
+#[derive(Clone, Copy)]
 pub struct Part {
     pub start: usize,
     pub len: usize,
@@ -15,14 +15,14 @@ pub struct Part {
 }
 
 // Whether a list's types must ascend (RFC 9162, section 4.8), or may stand in any order.
-#[derive(Drop)]
+#[derive(Clone, Copy)]
 pub enum Order {
     Ordered,
     Unordered,
 }
 
 // What a vector holds: bytes of no further form, extensions (RFC 9162, section 4.6), or node hashes (section 4.9).
-#[derive(Drop)]
+#[derive(Clone, Copy)]
 pub enum Inner {
     Opaque,
     ExtensionList(Order),
@@ -31,7 +31,7 @@ pub enum Inner {
 
 // A kind of field: a number of so many bytes; a vector with so wide a prefix and a range for its length; a number that must be one of few, which stand in a
 // row; bytes of a fixed length, with no prefix.
-#[derive(Drop)]
+#[derive(Clone, Copy)]
 pub enum Field {
     Uint(Width),
     Vector {
@@ -48,20 +48,20 @@ pub enum Field {
     Fixed(usize),
 }
 
-#[derive(Drop)]
+#[derive(Clone, Copy)]
 pub enum FieldRead {
     Found(Part),
     Bad { number: u32, place: usize },
 }
 
 // The first element of a body: its size, and what the next element must know of it; or the number of its refusal.
-#[derive(Drop)]
+#[derive(Clone, Copy)]
 pub enum Step {
     Size { len: usize, next: usize },
     Not(u32),
 }
 
-#[derive(Drop)]
+#[derive(Clone, Copy)]
 pub enum Inside {
     Fine,
     Wrong { number: u32, place: usize },

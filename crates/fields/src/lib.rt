@@ -4,6 +4,8 @@
 //
 // layout: the kinds of field, and reading one    reading: all fields of a layout    writing, laying: the same, the other way
 // path: a vector of node hashes, joined
+#![tactic(auto)]
+
 pub mod laying;
 pub mod layout;
 pub mod path;

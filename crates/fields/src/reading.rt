@@ -12,7 +12,7 @@ pub const MOST_FIELDS: usize = 8;
 // Where the fields of a layout lie, in its order, or the number and the place of a refusal; the number is 0 where there is none. `met` is how many fields
 // were found: after a refusal, the field that it met is the one behind these, and past the last field it is the bytes left over. Parts that were not found
 // are zeros.
-#[derive(Drop)]
+#[derive(Clone, Copy)]
 pub struct LayoutRead {
     pub number: u32,
     pub place: usize,

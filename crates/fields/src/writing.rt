@@ -10,14 +10,14 @@ use crate::layout::{Field, Inner, Inside, check_inside, is_allowed, left_of};
 use octets::{Width, put, put_number, width_of};
 
 // How many bytes were written; or the number and the place of a refusal.
-#[derive(Drop)]
+#[derive(Clone, Copy)]
 pub enum Written {
     Length(usize),
     Refused { number: u32, place: usize },
 }
 
 // How many bytes a field takes; or a refusal, its place counted from the field's start.
-#[derive(Drop)]
+#[derive(Clone, Copy)]
 pub enum Fill {
     Takes(usize),
     Not { number: u32, place: usize },

@@ -177,7 +177,7 @@ module _ (time j : ℕ) where
         let w : write four 0 ≡ good header = laid_write four 0 (zero_takes, (zero_takes, ((λ m. refl), (entry_takes j one, tt)))) in
         let t = all_typed four (omega arith, (omega arith, (small, (omega arith, tt)))) in
         let p : take k (header ++ rest) ≡ take k header = take-append-le k header rest (omega arith) in
-        let c = Cutting.cut-there four gs [] header k t w h in
+        let c = Cutting.cut_there four gs [] header k t w h in
         ap (λ (x : List ℕ). read (version ∷ leaf_type ∷ timestamp ∷ entry_type_of ∷ gs) x 0) p ∙ c ∙ ap (bad 2) (zero-add (start_of (pieces four) k))
 
 -- where the piece starts that holds a byte goes by the pieces up to it
@@ -200,7 +200,7 @@ module _ (x : Structure) (f : Fits x) where
       let n = of.given in
       let t = of.bytes in
       let l = of.line in
-      let c = Cutting.cut-there (filled n t l) [] [] (encoded x) k (typed n t of.sized l) of.written h in
+      let c = Cutting.cut_there (filled n t l) [] [] (encoded x) k (typed n t of.sized l) of.written h in
       let y : layout (filled n t l) ++ [] ≡ layout_of l = append-nil (layout (filled n t l)) ∙ filled_layout n t l in
       let p : pieces (filled n t l) ≡ field_bytes x = pieces_are l n t of.entry ∙ ap field_bytes of.same in
       rw y at c ∙ ap (bad 2) (zero-add (start_of (pieces (filled n t l)) k) ∙ ap (λ (ps : List (List ℕ)). start_of ps k) p)
@@ -210,7 +210,7 @@ module _ (x : Structure) (f : Fits x) where
       let n = of.given in
       let t = of.bytes in
       let l = of.line in
-      let c = Cutting.over-there (filled n t l) [] (encoded x) b r (typed n t of.sized l) of.written in
+      let c = Cutting.over_there (filled n t l) [] (encoded x) b r (typed n t of.sized l) of.written in
       rw (filled_layout n t l) at c ∙ ap (bad 3) (zero-add (length (encoded x)))
 
   short : length (encoded x) ≤ most_item

@@ -3,6 +3,8 @@
 // is hashed whole, from its version on, by `hash::leaf`.
 //
 // table: which structures there are, and their fields    reader: a whole structure    writer: the same, the other way
+#![tactic(auto)]
+
 mod reader;
 mod table;
 mod writer;

@@ -12,7 +12,7 @@ use octets::limits::MOST_ITEM;
 use octets::{Width, number_at};
 
 // Where the fields of a structure lie, each by its name; or the number and the place of a refusal. A leaf is one of two, by its entry type.
-#[derive(Drop)]
+#[derive(Clone, Copy)]
 pub enum First {
     X509Entry {
         version: Part,

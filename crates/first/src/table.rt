@@ -20,7 +20,7 @@ pub const TREE_HEAD: u16 = 3;
 const PRECERT_ENTRY: u16 = 1;
 
 // The lines of the table: the two cases of a leaf, a signed certificate timestamp, the signed portion of a tree head.
-#[derive(Drop)]
+#[derive(Clone, Copy)]
 pub enum Line {
     X509Entry,
     PrecertEntry,
@@ -28,7 +28,7 @@ pub enum Line {
     TreeHead,
 }
 
-#[derive(Drop)]
+#[derive(Clone, Copy)]
 pub enum Known {
     As(Line),
     Unknown,

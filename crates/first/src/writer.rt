@@ -9,7 +9,7 @@ use fields::laying::write_layout;
 use fields::writing::Written;
 
 // Every number that some structure has, but for version, leaf type and signature type, which have one value each.
-#[derive(Drop)]
+#[derive(Clone, Copy)]
 pub struct Numbers {
     pub timestamp: u64,
     pub size: u64,

@@ -1,8 +1,8 @@
 -- Every list of calls from a new tree: the claims. Over any hash. Assumes nothing.
 use mathlib.Core.Path.{◌≡◌, refl, sym, ap, ap₂, ◌∙◌}
-use mathlib.Core.Bool.{true, false, cond}
+use mathlib.Core.Bool.{cond}
 use mathlib.Core.List.{List, [], ◌∷◌, ◌++◌, map, append-nil, append_assoc}
-use Prim.Native.Nat.{ℕ, zero, suc, ◌+◌, ◌/◌, ◌%◌, ◌^◌, ◌≤◌, ◌<◌}
+use Prim.Native.Nat.{ℕ, zero, suc, ◌+◌, ◌/◌, ◌^◌, ◌≤◌, ◌<◌}
 use native.Mathlib.Omega.{arith}
 use lib.Count.{ones}
 use lib.Dec.{eqb, ltb}
@@ -20,7 +20,7 @@ use Rattle.tree.proofs.Full.{full_bits, together_full}
 use Rattle.growing.specs.declared.Growing.{Growing}
 use Rattle.growing.specs.declared.Grown.{Grown}
 use Rattle.growing.specs.Limits.{most_hashes}
-use Rattle.growing.specs.Hashes.{digest, nothing, fresh, counting, with_leaf, with_leaves}
+use Rattle.growing.specs.Hashes.{digest, nothing, fresh, with_leaf, with_leaves}
 use Rattle.growing.specs.Calls.{Call, of_page, of_leaves, room_number, call_number, brought, grown_by, tree_after, leaves_taken, all_brought, AllAccepted}
 use Rattle.growing.specs.Claims.{Follows, FollowsAll, HoweverCut, AllTaken, RefusedUnchanged, Takes}
 use Rattle.growing.proofs.Holding.{Holds, holds_none, holds_more, holds_full, holds_at, holds_zeros, merged_length, length_snoc}
@@ -160,6 +160,6 @@ module _ (H : List ℕ → List ℕ) where
   pub takes : Takes H
   unfolding mth
   takes = record {
-    pages = λ n pages a. (follows_all n (map of_page pages)).root-of-all ∙ ap (root H) (pages_taken n pages a);
-    leaves = λ n leaves a. (follows_all n (of_leaves leaves ∷ [])).root-of-all ∙ ap (root H) (leaves_taken_lem n leaves a);
+    pages = λ n pages a. (follows_all n (map of_page pages)).root_of_all ∙ ap (root H) (pages_taken n pages a);
+    leaves = λ n leaves a. (follows_all n (of_leaves leaves ∷ [])).root_of_all ∙ ap (root H) (leaves_taken_lem n leaves a);
   }

@@ -6,6 +6,7 @@ use Prim.Native.Nat.{ℕ, suc, ◌≤◌, ◌<◌}
 use native.Mathlib.Omega.{arith}
 use contract.Lifetimes.{Lfts}
 use denote.Ref.{Bor}
+use denote.MutBor.{MutBor}
 use lib.ListN.{length}
 use Rattle.hash.specs.declared.Algorithm.{Algorithm}
 use Rattle.hash.specs.declared.Hashed.{Hashed}
@@ -75,16 +76,16 @@ module _ (n : ℕ) (a : Algorithm) (e : algorithm_of n ≡ By a) where
 
     pub every_root : (d : Hashed) → root-reads.Learnt tt (n, (end, tt)) d (n, (end, tt)) →
         d ≡ record { number = 0; digest = digest (root (hash_of a) (leaves_of (hash_of a) n (called_by n calls))) }
-    every_root d p = p ∙ sym (root_known n end a held) ∙ ap (λ (h : List ℕ). record { number = 0; digest = digest h }) every.root-of-all
+    every_root d p = p ∙ sym (root_known n end a held) ∙ ap (λ (h : List ℕ). record { number = 0; digest = digest h }) every.root_of_all
 
     root_length : length (root (hash_of a) (leaves_of (hash_of a) n (called_by n calls))) ≡ 32
     root_length = root_32 (hash_of a) (hash_length a) (leaves_of (hash_of a) n (called_by n calls)) (taken_32 (hash_of a) (hash_length a) (fresh n) (called_by n calls))
 
     root_built_lem : (room : ℕ) → root_into_in n end room ≡ into room (root (hash_of a) (leaves_of (hash_of a) n (called_by n calls)))
-    root_built_lem room = sym (into_known n end room a held) ∙ root_into_of (hash_of a) end room ∙ ap (into room) every.root-of-all
+    root_built_lem room = sym (into_known n end room a held) ∙ root_into_of (hash_of a) end room ∙ ap (into room) every.root_of_all
 
     pub every_root_into :
-        (κs : Lfts 1) (out out' : Bor (List ℕ)) (b : Built) → root-into-reads.Learnt κs (n, (end, (out, tt))) b (n, (end, (out', tt))) → 32 ≤ length out.now →
+        (κs : Lfts 1) (out out' : MutBor (List ℕ)) (b : Built) → root-into-reads.Learnt κs (n, (end, (out, tt))) b (n, (end, (out', tt))) → 32 ≤ length out.now →
         (building b ≡ done 32) × (out'.now ≡ over (root (hash_of a) (leaves_of (hash_of a) n (called_by n calls))) out.now)
     unfolding build_report output
     every_root_into κs out out' b p h =
@@ -94,7 +95,7 @@ module _ (n : ℕ) (a : Algorithm) (e : algorithm_of n ≡ By a) where
         (p.0 ∙ ap build_report o ∙ ap done w, p.1 ∙ ap (λ (x : Outcome). output x out.now) o)
 
     pub every_root_refused :
-        (κs : Lfts 1) (out out' : Bor (List ℕ)) (b : Built) → root-into-reads.Learnt κs (n, (end, (out, tt))) b (n, (end, (out', tt))) → length out.now < 32 →
+        (κs : Lfts 1) (out out' : MutBor (List ℕ)) (b : Built) → root-into-reads.Learnt κs (n, (end, (out, tt))) b (n, (end, (out', tt))) → length out.now < 32 →
         (building b ≡ refused 9) × (out'.now ≡ out.now)
     unfolding build_report output
     every_root_refused κs out out' b p h =
@@ -140,7 +141,7 @@ module _ (n : ℕ) (g : Growing) where
     every_16_root d p = p ∙ sym (root_none n g none)
 
     pub every_16_root_into :
-        (κs : Lfts 1) (out out' : Bor (List ℕ)) (b : Built) → root-into-reads.Learnt κs (n, (g, (out, tt))) b (n, (g, (out', tt))) →
+        (κs : Lfts 1) (out out' : MutBor (List ℕ)) (b : Built) → root-into-reads.Learnt κs (n, (g, (out, tt))) b (n, (g, (out', tt))) →
         (building b ≡ refused 16) × (out'.now ≡ out.now)
     unfolding build_report output
     every_16_root_into κs out out' b p =

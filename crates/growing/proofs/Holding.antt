@@ -7,7 +7,7 @@ use mathlib.Core.List.{List, [], ◌∷◌, ◌++◌, append_assoc}
 use Prim.Native.Nat.{ℕ, zero, suc, ◌+◌, ◌-◌, ◌*◌, ◌/◌, ◌%◌, ◌^◌, ◌≤◌, ◌<◌}
 use native.Mathlib.Omega.{arith}
 use native.Mathlib.Nat.{pow-succ', mul-suc, mul_assoc, mul-div-le, zero-div, div-one, div-div-eq-div-mul}
-use lib.ListN.{length, take, drop, get_or, replicate, length-append, length-drop}
+use lib.ListN.{length, drop, get_or, replicate, length-append, length-drop}
 use lib.Seq.{take-append-le, drop-append-le, drop-append_seam}
 use lib.Dec.{eqb}
 use borrow.Author.Tests.{eq-eqb, ne_eqb}

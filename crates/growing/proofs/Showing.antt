@@ -12,12 +12,9 @@ use lib.Seq.{take_at, drop_at}
 use Rattle.tree.specs.Split.{split}
 use Rattle.tree.specs.Tree.{leaf, node, root}
 use Rattle.octets.specs.Bytes.{same, joined}
-use Rattle.tree.specs.Joined.{nodes, node_at}
+use Rattle.tree.specs.Joined.{nodes}
 use Rattle.tree.specs.Equations.{left, right}
-use Rattle.tree.specs.Verdict.{inclusion_verdict, consistency_verdict}
-use Rattle.tree.specs.Build.{wrote, inclusion_built, consistency_built}
 use Rattle.tree.proofs.Rfc.{root_one, root_split, length_left, length_right, by_parts}
-use Rattle.tree.proofs.Splitting.{split_ends}
 use Rattle.octets.proofs.Sameness.{same_true, same_of}
 use Rattle.tree.proofs.Joining.{All32, all_append, all_none, all_one, all_take, all_drop, all_nodes, joined_length, nodes_joined}
 use Rattle.tree.proofs.Completing.{root_32}
@@ -66,20 +63,20 @@ module _ (H : List ℕ → List ℕ) where
     count_of : (n : ℕ) (calls : List Call) → length (joined (leaves_taken H (fresh n) calls)) / 32 ≡ (tree_after H (fresh n) calls).count
     count_of n calls =
         let e = joined_length (leaves_taken H (fresh n) calls) (taken_32 (fresh n) calls) in
-        let d = (follows_all H n calls).count-of-all in
+        let d = (follows_all H n calls).count_of_all in
         omega arith
 
     root_of_lem : (n : ℕ) (calls : List Call) → root H (nodes (joined (leaves_taken H (fresh n) calls))) ≡ root_now H (tree_after H (fresh n) calls)
-    root_of_lem n calls = ap (root H) (list_of n calls) ∙ sym (follows_all H n calls).root-of-all
+    root_of_lem n calls = ap (root H) (list_of n calls) ∙ sym (follows_all H n calls).root_of_all
 
     -- the leaves of an earlier moment are the first of those of a later one
     earlier : (n : ℕ) (calls more : List Call) → root H (take (tree_after H (fresh n) calls).count (nodes (joined (leaves_taken H (fresh n) (calls ++ more))))) ≡ root_now H (tree_after H (fresh n) calls)
     earlier n calls more =
         let l = leaves_taken H (fresh n) calls in
-        let d = (follows_all H n calls).count-of-all in
+        let d = (follows_all H n calls).count_of_all in
         ap (λ (t : List (List ℕ)). root H (take (tree_after H (fresh n) calls).count t)) (list_of n (calls ++ more) ∙ taken_append (fresh n) calls more)
         ∙ ap (root H) (take_at l (leaves_taken H (tree_after H (fresh n) calls) more) (tree_after H (fresh n) calls).count (sym d))
-        ∙ sym (follows_all H n calls).root-of-all
+        ∙ sym (follows_all H n calls).root_of_all
 
     pub shown_all : ShownAll H
     shown_all n calls = record {
@@ -160,5 +157,5 @@ module _ (H : List ℕ → List ℕ) where
     same_leaves n calls others e r =
         let f = follows_all H n calls in
         let g = follows_all H n others in
-        binds (leaves_taken H (fresh n) calls) (leaves_taken H (fresh n) others) (sym g.count-of-all ∙ sym e ∙ f.count-of-all) (taken_32 (fresh n) calls) (taken_32 (fresh n) others)
-        (sym f.root-of-all ∙ r ∙ g.root-of-all)
+        binds (leaves_taken H (fresh n) calls) (leaves_taken H (fresh n) others) (sym g.count_of_all ∙ sym e ∙ f.count_of_all) (taken_32 (fresh n) calls) (taken_32 (fresh n) others)
+        (sym f.root_of_all ∙ r ∙ g.root_of_all)

@@ -4,6 +4,8 @@
 // another number, and every call over a number that no hash has, is 16, before all else.
 //
 // add: the calls    levels: more leaf hashes, and the root, level by level
+#![tactic(auto)]
+
 pub mod add;
 mod levels;
 
@@ -25,7 +27,7 @@ use tree::build::Built;
 // How many hashes a growing tree keeps.
 pub const MOST_HASHES: usize = 64;
 
-#[derive(Drop)]
+#[derive(Clone, Copy)]
 pub struct Growing {
     pub algorithm: u64,
     pub hashes: [Digest; MOST_HASHES],
@@ -33,7 +35,7 @@ pub struct Growing {
 }
 
 // What a call answers: 0 or the number of its refusal, and the tree after it.
-#[derive(Drop)]
+#[derive(Clone, Copy)]
 pub struct Grown {
     pub number: u32,
     pub after: Growing,

@@ -1,12 +1,10 @@
 -- What holds of either hash, and of either number. Assumes nothing.
-use mathlib.Core.Bool.{true, false}
 use mathlib.Core.Path.{◌≡◌, refl, sym, ap, ◌∙◌}
 use mathlib.Core.List.{List}
 use Prim.Native.Nat.{ℕ, ◌≤◌}
 use native.Mathlib.Omega.{arith}
-use lib.Dec.{eqb}
 use lib.ListN.{length}
-use borrow.Author.Tests.{eq-eqb, ne_eqb, eqb-true}
+use borrow.Author.Tests.{eq-eqb, ne_eqb}
 use Rattle.words.specs.declared.State.{State}
 use Rattle.words.specs.Words.{word_from}
 use Rattle.words.specs.Answers.{Compression, Scheduling, value_after}
@@ -17,7 +15,7 @@ use Rattle.hash.specs.declared.Algorithm.{Algorithm}
 use Rattle.hash.specs.declared.Algorithm.TheVariants.{Sha256, Sm3}
 use Rattle.hash.specs.declared.Named.{Named}
 use Rattle.hash.specs.declared.Named.TheVariants.{By, Unknown}
-use Rattle.hash.specs.Algorithm.{number_of, algorithm_of, held_by, step_of}
+use Rattle.hash.specs.Algorithm.{algorithm_of, held_by, step_of}
 use Rattle.hash.specs.Message.{absorbed}
 use Rattle.hash.specs.Digest.{hash_of, by_named, by_number}
 use Rattle.hash.proofs.Padding.{ByWords}
@@ -25,8 +23,8 @@ use Rattle.hash.proofs.Padding.{ByWords}
 -- the block step goes by a block's sixteen words alone
 pub step_same : (a : Algorithm) → ByWords (step_of a)
 unfolding step_of
-step_same Sha256 = sha-laws.compress-same
-step_same Sm3 = sm-laws.compress-same
+step_same Sha256 = sha-laws.compress_same
+step_same Sm3 = sm-laws.compress_same
 
 -- two blocks, one after the other, in a schedule of n words
 pub both_taken : (n : ℕ) (C : Compression) (S : Scheduling) (s r t : State) (m w v : List ℕ) → 128 ≤ length m → length w ≡ n → length v ≡ n →

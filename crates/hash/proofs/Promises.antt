@@ -5,7 +5,7 @@ use mathlib.Core.List.{List, ◌++◌}
 use Prim.Native.Nat.{ℕ, zero, suc, ◌<◌}
 use native.Mathlib.Omega.{arith}
 use lib.Dec.{eqb}
-use lib.ListN.{length, get_or}
+use lib.ListN.{get_or}
 use borrow.Author.Tests.{eqb-true}
 use Rattle.octets.specs.Bytes.{Bytes, no_bytes, one_byte}
 use Rattle.octets.specs.Numbers.{be}
@@ -17,7 +17,7 @@ use Rattle.hash.specs.declared.Named.{Named}
 use Rattle.hash.specs.declared.Named.TheVariants.{By, Unknown}
 use Rattle.hash.specs.Algorithm.{number_of, algorithm_of, start_of, step_of}
 use Rattle.hash.specs.Message.{hash_value, state_bytes}
-use Rattle.hash.specs.Digest.{hash_of, by_number}
+use Rattle.hash.specs.Digest.{hash_of}
 use Rattle.hash.specs.Claims.{Has32, AreBytes, OneNumberEach, HeldAlone, AnsweredBy}
 use Rattle.hash.proofs.Algorithms.{names_sha256, names_sm3, names_none, held_itself, held_another, by_known, by_unknown}
 

@@ -1,6 +1,8 @@
 // SHA-256 (FIPS 180-4) and SM3 (GB/T 32905-2016) of a message, over the block steps of the crates sha256 and sm3, and the hashes of a leaf and of a node
 // (RFC 9162, section 2.1.1). What the layers call among themselves takes an `Algorithm`, which cannot be unknown; the entries, in by_number, take a
 // number. The layers above see the contracts, and that a digest has 32 bytes.
+#![tactic(auto)]
+
 pub mod by_number; // the entries: any number, and 16 for one that no hash has
 mod message;
 
@@ -18,14 +20,14 @@ use octets::limits::MOST_ITEM;
 const MOST_INPUT: usize = MOST_ITEM + 1;
 
 // The two hashes.
-#[derive(Drop)]
+#[derive(Clone, Copy)]
 pub enum Algorithm {
     Sha256,
     Sm3,
 }
 
 // What a number names.
-#[derive(Drop)]
+#[derive(Clone, Copy)]
 pub enum Named {
     By(Algorithm),
     Unknown,
@@ -55,13 +57,13 @@ pub fn algorithm_held(number: u64, held: u64) -> Named
 }
 
 // A hash value as bytes.
-#[derive(Drop)]
+#[derive(Clone, Copy)]
 pub struct Digest {
     pub bytes: [u8; 32],
 }
 
 // A digest with the number 0, or a refusal's number with 32 zero bytes.
-#[derive(Drop)]
+#[derive(Clone, Copy)]
 pub struct Hashed {
     pub number: u32,
     pub digest: Digest,

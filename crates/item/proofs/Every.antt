@@ -3,32 +3,27 @@
 use mathlib.Core.Path.{◌≡◌, refl, ap, ap₂, sym, subst, ◌∙◌}
 use mathlib.Core.List.{List, [], ◌++◌}
 use Prim.Native.Nat.{ℕ, ◌≤◌}
-use native.Mathlib.Omega.{arith}
 use lib.ListN.{length, take, drop}
-use lib.Seq.{take_at}
-use borrow.Author.Tests.{le-ltb}
 use contract.Lifetimes.{Lfts}
 use denote.Ref.{Bor}
+use denote.MutBor.{MutBor}
 use Rattle.fields.specs.declared.layout.Part.{Part}
 use Rattle.item.specs.declared.reader.Item.{Item}
 use Rattle.item.specs.declared.reader.Item.TheVariants.{Entry, Receipt, SignedHead, Consistency, Inclusion, Page, Refused}
 use Rattle.item.specs.declared.writer.Numbers.{Numbers}
 use Rattle.fields.specs.declared.writing.Written.{Written}
-use Rattle.fields.specs.declared.writing.Written.TheVariants.{Length, Refused as refused_at}
-use Rattle.fields.specs.Checked.{Checked, good, bad}
+use Rattle.fields.specs.declared.writing.Written.TheVariants.{Length}
+use Rattle.fields.specs.Checked.{Checked}
 use Rattle.octets.specs.Bytes.{Bytes}
 use Rattle.item.specs.declared.table.Met.{Met}
 use Rattle.item.specs.Item.{read_item, Meets, met_by, Vectors, vectors, write_item}
-use Rattle.fields.specs.Effect.{writing, Effect, wrote}
-use Rattle.fields.specs.Path.{path_at, copy_path}
+use Rattle.fields.specs.Effect.{writing, Effect}
 use Rattle.item.specs.Claims.{Sized, Taken, Copied, TakenThenWritten, WrittenThenTaken}
-use Rattle.fields.proofs.Answers.{bad_good, same_good}
-use Rattle.fields.proofs.Lent.{was_put}
 use Rattle.item.proofs.Items as Items
 use Rattle.item.proofs.Naming.{reads_meets}
 use Rattle.item.proofs.Trips.{taken_then_written, written_then_taken}
 use Rattle.item.proofs.reader.read.Reads as read-reads
-use Rattle.fields.proofs.Every.{Through, Comes, written_length, through_copied, copied_comes, ref, answer_of, answer_is, copied_through, comes_copied}
+use Rattle.fields.proofs.Every.{Through, Comes, written_length, through_copied, copied_comes, ref, mut_ref, answer_of, answer_is, copied_through, comes_copied}
 use Rattle.item.proofs.writer.write.Reads as write-reads
 
 -- what each function may answer, by its contract: the reader; the writer, with the lent bytes before and after
@@ -51,7 +46,7 @@ abbrev pub held : Slices → Vectors
 held v =
     vectors v.log.now v.issuer.now v.certificate.now v.root.now v.extensions.now v.signature.now v.path.now v.body.now
 
-pub record Writes (k : ℕ) (n : Numbers) (v : Slices) (out out' : Bor (List ℕ)) (a : Written) : Type 0 where
+pub record Writes (k : ℕ) (n : Numbers) (v : Slices) (out out' : MutBor (List ℕ)) (a : Written) : Type 0 where
   pub lives : Lfts 2
   pub learnt :
       write-reads.Learnt lives
@@ -81,7 +76,7 @@ taken_meets P s (Refused x y z) k n t m h = absurd h
 
 -- what is read, taken field by field and written again is the same bytes
 pub read_then_written :
-    (s out after : Bor (List ℕ)) (i : Item) (k : ℕ) (n : Numbers) (v : Slices) (a : Written) → Bytes s.now → Reads s i → Taken (Through s) s.now i k n (held v)
+    (s : Bor (List ℕ)) (out after : MutBor (List ℕ)) (i : Item) (k : ℕ) (n : Numbers) (v : Slices) (a : Written) → Bytes s.now → Reads s i → Taken (Through s) s.now i k n (held v)
     → length s.now ≤ length out.now → Writes k n v out after a → (a ≡ Length (length s.now)) × (after.now ≡ s.now ++ drop (length s.now) out.now)
 read_then_written s out after i k n v a bs r h fit w =
     let q = taken_then_written s.now out.now i k n (held v) bs r.learnt.0 (taken_by (Through s) (Copied s.now) s.now i k n (held v) (through_copied s) h) fit in
@@ -89,7 +84,7 @@ read_then_written s out after i k n v a bs r h fit w =
 
 -- what was written, read again, answers the same fields
 pub written_then_read :
-    (k : ℕ) (n : Numbers) (v : Slices) (out after : Bor (List ℕ)) (m : ℕ) (s : Bor (List ℕ)) (i : Item) → Sized k n → Writes k n v out after (Length m)
+    (k : ℕ) (n : Numbers) (v : Slices) (out after : MutBor (List ℕ)) (m : ℕ) (s : Bor (List ℕ)) (i : Item) → Sized k n → Writes k n v out after (Length m)
     → s.now ≡ take m after.now → Reads s i → Taken (Comes s) s.now i k n (held v)
 written_then_read k n v out after m s i z w e r =
     let b = (write_item k n (held v) out.now).bytes in
@@ -112,17 +107,17 @@ slices t =
     }
 
 pub written_claimed : TakenThenWritten
-unfolding ref slices
+unfolding ref mut_ref slices
 written_claimed s out i k n t bs e h fit =
     let o = write_item k n t out in
-    let r = read_then_written (ref s) (ref out) (ref o.bytes) i k n (slices t) (answer_of o.answer) bs (record { lives = ([], tt); learnt = (e, taken_meets (Copied s) s i k n t (met_by s) h) }) (taken_by (Copied s) (Through (ref s)) s i k n t (copied_through s) h) fit (record { lives = ([], ([], tt)); learnt = (answer_is o.answer, refl) }) in
+    let r = read_then_written (ref s) (mut_ref out) (mut_ref o.bytes) i k n (slices t) (answer_of o.answer) bs (record { lives = ([], tt); learnt = (e, taken_meets (Copied s) s i k n t (met_by s) h) }) (taken_by (Copied s) (Through (ref s)) s i k n t (copied_through s) h) fit (record { lives = ([], ([], tt)); learnt = (answer_is o.answer, refl) }) in
     ap₂ (λ (x : Checked ℕ) (y : List ℕ). record { answer = x; bytes = y }) (sym (answer_is o.answer) ∙ ap writing r.0) r.1
 
 pub taken_claimed : WrittenThenTaken
-unfolding ref slices
+unfolding ref mut_ref slices
 taken_claimed k n t out m i z e d =
     let o = write_item k n t out in
     let s = take m o.bytes in
-    let b = Items.written-then-read k n t out m z e in
-    let r = written_then_read k n (slices t) (ref out) (ref o.bytes) m (ref s) i z (record { lives = ([], ([], tt)); learnt = (sym e, refl) }) refl (record { lives = ([], tt); learnt = (d, reads_meets i b.reading (met_by s) (d ∙ b.reads)) }) in
+    let b = Items.written_then_read k n t out m z e in
+    let r = written_then_read k n (slices t) (mut_ref out) (mut_ref o.bytes) m (ref s) i z (record { lives = ([], ([], tt)); learnt = (sym e, refl) }) refl (record { lives = ([], tt); learnt = (d, reads_meets i b.reading (met_by s) (d ∙ b.reads)) }) in
     taken_by (Comes (ref s)) (Copied s) s i k n t (comes_copied s) r

@@ -2,11 +2,11 @@
 use mathlib.Core.Path.{◌≡◌, refl, ap, sym, subst, ◌∙◌}
 use mathlib.Core.List.{List, [], ◌∷◌, ◌++◌, map}
 use mathlib.Core.Bool.{Bool, true, false, cond}
-use Prim.Native.Nat.{ℕ, ◌+◌, ◌/◌, ◌≤◌}
+use Prim.Native.Nat.{ℕ, ◌/◌, ◌≤◌}
 use native.Mathlib.Omega.{arith}
 use lib.ListN.{length, get_or, take, drop, length-append, take-append-drop}
 use lib.Dec.{ltb, eqb}
-use lib.Seq.{take_at, length-take-le, take_all}
+use lib.Seq.{take_at, length-take-le}
 use borrow.Author.Tests.{le-ltb, ltb-false}
 use Rattle.fields.specs.declared.layout.Part.{Part}
 use Rattle.fields.specs.declared.layout.Field.{Field}
@@ -17,7 +17,7 @@ use Rattle.item.specs.declared.table.Case.TheVariants.{Entry, Receipt, SignedHea
 use Rattle.item.specs.declared.writer.Numbers.{Numbers}
 use Rattle.fields.specs.Checked.{Checked, good, bad, then}
 use Rattle.octets.specs.Numbers.{unbe, be}
-use Rattle.fields.specs.Layout.{field, read, bytes_at}
+use Rattle.fields.specs.Layout.{read, bytes_at}
 use Rattle.fields.specs.Write.{Filled, join, write, values, opened, unwrap, stripped}
 use Rattle.octets.specs.Limits.{most_item}
 use Rattle.item.specs.Table.{TypeRow, field_of, names_of, layout_of, types, find}

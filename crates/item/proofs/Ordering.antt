@@ -98,7 +98,7 @@ refused_by_order s x y e = go (rules s)
     go (early u v h n o) = let q = same_number u x v y (sym n ∙ e) in ((λ z. absurd (h (sym q ∙ z))), λ z. o ∙ sym n ∙ e)
     go (line c k n o) =
         let b = line_bad c k (read (layout_of c) s 2) x y (sym n ∙ e) in
-        let f = fields.refused-by-order (layout_of c) s 2 x y b in
+        let f = fields.refused_by_order (layout_of c) s 2 x y b in
         ((λ z. rw o (line_on c k (read (map unordered (layout_of c)) s 2) y (f.0 z))), λ z. rw (o, f.1 z))
 
 pub fifteen_in_list : FifteenInList
@@ -106,7 +106,7 @@ fifteen_in_list s y bs e = go (rules s)
   where
     go : Rules s (read_item s) (older_item s) → ListOutOfOrder s y
     go (early u v h n o) = absurd (h (sym (same_number u 15 v y (sym n ∙ e))))
-    go (line c k n o) = sorted.fifteen-in-list (layout_of c) s 2 y bs (line_bad c k (read (layout_of c) s 2) 15 y (sym n ∙ e))
+    go (line c k n o) = sorted.fifteen_in_list (layout_of c) s 2 y bs (line_bad c k (read (layout_of c) s 2) 15 y (sym n ∙ e))
 
 -- of a line's fields extensions alone have an order
 abbrev Ascend : List ℕ → Case → List Part → Type 0
@@ -127,7 +127,7 @@ read_by_order s r bs e = go (rules s)
     go (early x y h n o) = bad_good x y r (sym o ∙ e)
     go (line c k n o) =
         let g = line_good c k (read (map unordered (layout_of c)) s 2) r (sym o ∙ e) in
-        let f = sorted.read-by-order (layout_of c) s 2 r.fields bs g.0 in
+        let f = sorted.read_by_order (layout_of c) s 2 r.fields bs g.0 in
         let l : length r.fields ≡ length (names_of c) = read_count (map unordered (layout_of c)) s 2 r.fields g.0 ∙ length-map (layout_of c) unordered ∙ layout_length c in
         let w = subst (λ (ps : List Part). InOrder (layout_of c) s ps ↔ Ascend s c ps) (all_firsts (length (names_of c)) r.fields l) (in_order s c r.fields) in (
           (λ z. rw g.1 (w.0 (f.0 (line_good c k (read (layout_of c) s 2) r (sym n ∙ z)).0))),
@@ -139,7 +139,7 @@ unfolding read_by
 order_first s c x y bs short typed known e h =
     let k = unbe (take 2 s) in
     let r : read_item s ≡ then (read (layout_of c) s 2) (item c k) = rw (le-ltb most_item (length s) short, le-ltb (length s) 2 typed, known) in
-    sorted.order-first (layout_of c) s 2 x y bs (line_bad c k (read (layout_of c) s 2) x y (sym r ∙ e)) h
+    sorted.order_first (layout_of c) s 2 x y bs (line_bad c k (read (layout_of c) s 2) x y (sym r ∙ e)) h
 
 pub refused_as_read : RefusedAsRead
 unfolding read_by write_item

@@ -1,18 +1,15 @@
 -- Both round trips as a caller makes them, and the path of an item that was read. Assumes nothing.
 use mathlib.Core.Path.{◌≡◌, refl, ap, sym, subst, ◌∙◌}
 use mathlib.Core.List.{List, [], ◌∷◌}
-use Prim.Native.Nat.{ℕ, ◌+◌, ◌≤◌}
+use Prim.Native.Nat.{ℕ}
 use native.Mathlib.Omega.{arith}
-use lib.ListN.{length, get_or, take, drop, length-drop}
-use lib.Seq.{drop-drop}
+use lib.ListN.{length, get_or, take}
 use borrow.Author.Tests.{le-ltb}
 use Rattle.fields.specs.declared.layout.Part.{Part}
 use Rattle.fields.specs.declared.layout.Inner.{Inner}
 use Rattle.fields.specs.declared.layout.Inner.TheVariants.{NodeList}
-use Rattle.fields.specs.declared.layout.Inside.TheVariants.{Fine}
 use Rattle.fields.specs.declared.layout.Field.{Field}
-use Rattle.fields.specs.declared.layout.Field.TheVariants.{Uint, Vector}
-use Rattle.fields.specs.declared.layout.FieldRead.TheVariants.{Found}
+use Rattle.fields.specs.declared.layout.Field.TheVariants.{Vector}
 use Rattle.item.specs.declared.table.Case.{Case}
 use Rattle.item.specs.declared.table.Case.TheVariants.{Entry, Receipt, SignedHead, Consistency, Inclusion, Page}
 use Rattle.item.specs.declared.reader.Item.{Item}
@@ -20,18 +17,16 @@ use Rattle.item.specs.declared.reader.Item.TheVariants.{Entry as entry, Receipt 
 use Rattle.item.specs.declared.writer.Numbers.{Numbers}
 use Rattle.fields.specs.Checked.{Checked, good, bad}
 use Rattle.octets.specs.declared.number.Width.{Width}
-use Rattle.octets.specs.Numbers.{width_of, unbe}
-use Rattle.fields.specs.Layout.{inside, field, bytes_at}
+use Rattle.fields.specs.Layout.{bytes_at}
 use Rattle.fields.specs.Write.{Filled, number_in, bytes_in, unwrap, opened, values}
-use Rattle.item.specs.Table.{names_of, layout_of}
+use Rattle.item.specs.declared.table.Name.TheVariants.{LogId, Size, SizeOne, SizeTwo, Place, Path}
+use Rattle.item.specs.Table.{field_of, names_of, layout_of}
 use Rattle.item.specs.Item.{Reading, reading, read_item, Vectors, filled, write_item}
 use Rattle.fields.specs.Effect.{wrote}
 use Rattle.fields.specs.Path.{path_at, copy_path}
 use Rattle.fields.specs.Answers.{no_part}
 use Rattle.item.specs.Claims.{Given, HasPath, path_part, PathIsSaid, Taken, Copied, TakenThenWritten, WrittenThenTaken}
-use Rattle.fields.specs.Claims.{CopyKeeps}
 use Rattle.fields.proofs.Answers.{bad_good, good_bad, same_good}
-use Rattle.fields.proofs.Lent.{refused_keeps, past_keeps}
 use Rattle.fields.proofs.Within.{Both, parts_all, Whole, found_whole}
 use Rattle.fields.proofs.Filling.{nothing}
 use Rattle.fields.proofs.Hashing.{was_copied, copied_is, copied_is_joined}
@@ -53,8 +48,8 @@ path_copied s r e h = let w = was_read s r e in go r.case r.fields h (parts_all 
     go Receipt ps h b = absurd h
     go SignedHead ps h b = absurd h
     go Page ps h b = absurd h
-    go Consistency ps h b = let d = fourth _ _ _ _ ps b in copied_is s (get_or ps 3 no_part) d.0 d.1
-    go Inclusion ps h b = let d = fourth _ _ _ _ ps b in copied_is s (get_or ps 3 no_part) d.0 d.1
+    go Consistency ps h b = let d : Whole s (field_of Path) (get_or ps 3 no_part) = fourth (field_of LogId) (field_of SizeOne) (field_of SizeTwo) (field_of Path) ps b in copied_is s (get_or ps 3 no_part) d.0 d.1
+    go Inclusion ps h b = let d : Whole s (field_of Path) (get_or ps 3 no_part) = fourth (field_of LogId) (field_of Size) (field_of Place) (field_of Path) ps b in copied_is s (get_or ps 3 no_part) d.0 d.1
 
 -- the value of a fourth field that is a vector
 fourth_value : (s : List ℕ) (f g k : Field) (w : Width) (least most : ℕ) (i : Inner) (a : List Filled) (ps : List Part) → length a ≡ 4 → a ≡ values (f ∷ (g ∷ (k ∷ (Vector w least most i ∷ [])))) ps s → bytes_in (get_or a 3 nothing).value ≡ unwrap i (bytes_at s (get_or ps 3 no_part))

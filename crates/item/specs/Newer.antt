@@ -45,4 +45,4 @@ which a b = chosen a b (head_of (read_item a)) (head_of (read_item b))
 abbrev pub Returns : Choice → Bor (List ℕ) → Bor (List ℕ) → Bor (List ℕ) → Type 0
 Returns First a b r = r ≡ a
 Returns Second a b r = r ≡ b
-Returns Neither a b r = (r.now ≡ []) × (r.ref_ptr ≡ a.ptr)
+Returns Neither a b r = (r.now ≡ []) × (r.ref_ptr ≡ a.ref_ptr)

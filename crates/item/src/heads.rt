@@ -9,7 +9,7 @@ use fields::layout::Part;
 use octets::same;
 
 // What a signed head is compared by: where its log id lies, its timestamp and its size.
-#[derive(Drop)]
+#[derive(Clone, Copy)]
 pub enum Head {
     Read {
         log: Part,
@@ -19,7 +19,7 @@ pub enum Head {
     Unreadable,
 }
 
-#[derive(Drop)]
+#[derive(Clone, Copy)]
 pub enum Choice {
     First,
     Second,

@@ -3,6 +3,8 @@
 // that was read is joined as the verdicts take it by `fields::path::path_into`.
 //
 // table: which fields each type has    reader: a whole item    writer: the same, the other way    heads: the newer of two
+#![tactic(auto)]
+
 mod heads;
 mod reader;
 mod table;

@@ -12,7 +12,7 @@ use octets::limits::MOST_ITEM;
 use octets::{Width, number_at};
 
 // Where the fields of an item lie, each by its name, with its type; or the number and the place of a refusal, and what it met.
-#[derive(Drop)]
+#[derive(Clone, Copy)]
 pub enum Item {
     Entry {
         kind: u16,

@@ -8,7 +8,7 @@ use fields::reading::MOST_FIELDS;
 use octets::Width;
 
 // Every field that some item has.
-#[derive(Drop)]
+#[derive(Clone, Copy)]
 pub enum Name {
     Timestamp,
     Size,
@@ -28,7 +28,7 @@ pub enum Name {
 }
 
 // The lines of the table.
-#[derive(Drop)]
+#[derive(Clone, Copy)]
 pub enum Case {
     Entry,
     Receipt,
@@ -39,7 +39,7 @@ pub enum Case {
 }
 
 // What a refusal of the reader met: the whole item, which is too long; the two bytes of its type; a field by its name; bytes after the last field.
-#[derive(Drop)]
+#[derive(Clone, Copy)]
 pub enum Met {
     Whole,
     TypeBytes,
@@ -47,7 +47,7 @@ pub enum Met {
     After,
 }
 
-#[derive(Drop)]
+#[derive(Clone, Copy)]
 pub enum Known {
     As(Case),
     Unknown,

@@ -13,7 +13,7 @@ use fields::writing::{Fill, Written, check_field, put_field};
 use octets::{Width, put_number};
 
 // Every number that some item has.
-#[derive(Drop)]
+#[derive(Clone, Copy)]
 pub struct Numbers {
     pub timestamp: u64,
     pub size: u64,

@@ -1,7 +1,7 @@
 -- A path that was read and copied is judged by the hashes that stand in its item. Assumes nothing.
-use mathlib.Core.Path.{◌≡◌, refl, sym, ap, ◌∙◌}
-use mathlib.Core.List.{List, [], ◌∷◌, ◌++◌}
-use Prim.Native.Nat.{ℕ, ◌*◌, ◌/◌}
+use mathlib.Core.Path.{◌≡◌, ap, ◌∙◌}
+use mathlib.Core.List.{List, [], ◌∷◌}
+use Prim.Native.Nat.{ℕ, ◌*◌}
 use native.Mathlib.Omega.{arith}
 use lib.ListN.{length}
 use Rattle.tree.specs.Claims.{Inclusion, Consistency}
@@ -30,10 +30,10 @@ module _ (H : List ℕ → List ℕ) (path : List ℕ) (hashes : List (List ℕ)
   shown : (leaf : List ℕ) (place size : ℕ) (claimed : List ℕ) → Inclusion H leaf place size claimed path → Shows H leaf place size claimed hashes
   shown leaf place size claimed p =
       record {
-        leaf_32 = p.leaf-32;
-        root_32 = p.root-32;
+        leaf_32 = p.leaf_32;
+        root_32 = p.root_32;
         below = p.below;
-        in_range = p.in-range;
+        in_range = p.in_range;
         counted = let c = p.counted in omega arith;
         yields = rw (← same) p.yields;
       }
@@ -41,10 +41,10 @@ module _ (H : List ℕ → List ℕ) (path : List ℕ) (hashes : List (List ℕ)
   shows : (leaf : List ℕ) (place size : ℕ) (claimed : List ℕ) → Shows H leaf place size claimed hashes → Inclusion H leaf place size claimed path
   shows leaf place size claimed p =
       record {
-        leaf_32 = p.leaf-32;
-        root_32 = p.root-32;
+        leaf_32 = p.leaf_32;
+        root_32 = p.root_32;
         below = p.below;
-        in_range = p.in-range;
+        in_range = p.in_range;
         counted = let c = p.counted in omega arith;
         yields = rw same p.yields;
       }
@@ -52,27 +52,27 @@ module _ (H : List ℕ → List ℕ) (path : List ℕ) (hashes : List (List ℕ)
   joined_by : (first second : ℕ) (claimed₁ claimed₂ : List ℕ) → Consistency H first second claimed₁ claimed₂ path → Joins H first second claimed₁ claimed₂ hashes
   joined_by first second claimed₁ claimed₂ p =
       record {
-        first_32 = p.first-32;
-        second_32 = p.second-32;
+        first_32 = p.first_32;
+        second_32 = p.second_32;
         some = p.some;
         order = p.order;
-        in_range = p.in-range;
+        in_range = p.in_range;
         counted = let c = p.counted in omega arith;
-        yields_first = rw (← same) p.yields-first;
-        yields_second = rw (← same) p.yields-second;
+        yields_first = rw (← same) p.yields_first;
+        yields_second = rw (← same) p.yields_second;
       }
 
   joins : (first second : ℕ) (claimed₁ claimed₂ : List ℕ) → Joins H first second claimed₁ claimed₂ hashes → Consistency H first second claimed₁ claimed₂ path
   joins first second claimed₁ claimed₂ p =
       record {
-        first_32 = p.first-32;
-        second_32 = p.second-32;
+        first_32 = p.first_32;
+        second_32 = p.second_32;
         some = p.some;
         order = p.order;
-        in_range = p.in-range;
+        in_range = p.in_range;
         counted = let c = p.counted in omega arith;
-        yields_first = rw same p.yields-first;
-        yields_second = rw same p.yields-second;
+        yields_first = rw same p.yields_first;
+        yields_second = rw same p.yields_second;
       }
 
 pub items_are_judged : ItemsAreJudged

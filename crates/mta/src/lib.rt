@@ -1,6 +1,8 @@
 // What a program in C calls (include/mta.h), on numbers and byte slices: both verdicts, carrying and comparing, the root of leaf hashes, the readers of items
 // and of the first edition, the writer of a consistency item, the hashes and the block steps. 0 means accepted or done, any other answer is a refusal's
 // number. What hashes takes the hash's number first: 0x00 is SHA-256, 0xF0 is SM3; any other is 16, before all else.
+#![tactic(auto)]
+
 ghost use Rattle.std.specs.Prelude.{◌≡◌, ◌∷◌, length};
 ghost use Rattle.hash.specs.Digest.{hash_of, by_number};
 ghost use Rattle.octets.specs.Limits.{most_item};
@@ -158,7 +160,7 @@ fn built(b: Built) -> u32
     }
 }
 
-#[derive(Drop)]
+#[derive(Clone, Copy)]
 struct Refusal {
     number: u32,
     place: usize,

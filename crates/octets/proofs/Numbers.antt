@@ -4,7 +4,7 @@ use mathlib.Core.List.{List, [], ◌∷◌, ◌++◌}
 use Prim.Native.Nat.{ℕ, zero, suc, ◌+◌, ◌-◌, ◌*◌, ◌^◌, ◌/◌, ◌%◌, ◌≤◌, ◌<◌}
 use native.Mathlib.Omega.{arith}
 use native.Mathlib.Numerals.{add-one}
-use native.Mathlib.Nat.{pow-suc, pow-le-pow_right, mul_assoc, mul_comm, suc-mul, mod-lt, mul-add-div_right, div-eq_of_lt, mod-eq_of_lt, mul-add-mod_self_right, mul-le-mul_right, add-zero, zero-add, suc-add, lt_of_lt_of_le}
+use native.Mathlib.Nat.{pow-suc, pow-le-pow_right, mul_assoc, mul_comm, suc-mul, mul-add-div_right, div-eq_of_lt, mod-eq_of_lt, mul-le-mul_right, add-zero, zero-add, suc-add, lt_of_lt_of_le}
 use lib.ListN.{length, get_or, take, drop, length-append, length-drop, drop_of_length-le}
 use lib.Seq.{take-suc, take-nil, take_all, get_or-drop}
 use lib.Arith.{mod-mul}

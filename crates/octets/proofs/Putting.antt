@@ -1,24 +1,24 @@
 -- The laws of writing over a buffer. Assumes nothing.
 use mathlib.Core.Path.{◌≡◌, refl, ap, sym, subst, ◌∙◌}
-use mathlib.Core.Bool.{Bool, true, false, not}
+use mathlib.Core.Bool.{Bool, true, false}
 use mathlib.Core.List.{List, [], ◌∷◌, ◌++◌, append_assoc, append-nil}
 use Prim.Native.Nat.{ℕ, suc, ◌+◌, ◌≤◌, ◌<◌}
 use native.Mathlib.Omega.{arith}
 use native.Mathlib.Numerals.{add-one}
-use native.Mathlib.Nat.{add_assoc, zero-add, le_refl}
+use native.Mathlib.Nat.{add_assoc, zero-add}
 use lib.Dec.{leb}
 use lib.ListN.{length, take, drop, get_or, set, length-append, length-drop, take-append-drop, drop_of_length-le}
-use lib.Seq.{drop-cons, get_or-drop, take_at, drop_at, drop-append-add, drop-drop, take-add, set_split, length-take-le, take-length, paste}
-use borrow.Author.Tests.{le-leb, lt-leb, leb-true, leb-false, not-true, not-false}
+use lib.Seq.{drop-cons, take_at, drop_at, drop-append-add, drop-drop, take-add, set_split, length-take-le, take-length, paste}
+use borrow.Author.Tests.{le-leb, lt-leb, leb-true, leb-false}
 use Rattle.octets.specs.Bytes.{over, put, put_within, copied}
 use Rattle.octets.specs.Claims.{Put}
 
 -- a test of reach, as a fact
-pub beyond : (r : Bool) (a b : ℕ) → r ≡ leb a b → not r ≡ true → b < a
-beyond r a b e n = leb-false a b (sym e ∙ not-true r n)
+pub beyond : (r : Bool) (a b : ℕ) → r ≡ leb a b → r ≡ false → b < a
+beyond r a b e n = leb-false a b (sym e ∙ n)
 
-pub within : (r : Bool) (a b : ℕ) → r ≡ leb a b → not r ≡ false → a ≤ b
-within r a b e n = leb-true a b (sym e ∙ not-false r n)
+pub within : (r : Bool) (a b : ℕ) → r ≡ leb a b → r ≡ true → a ≤ b
+within r a b e n = leb-true a b (sym e ∙ n)
 
 pub head_length : (out a : List ℕ) (at : ℕ) → at ≤ length out → length (take at out ++ a) ≡ at + length a
 head_length out a at h = length-append (take at out) a ∙ ap (λ (k : ℕ). k + length a) (length-take-le at out h)

@@ -2,6 +2,8 @@
 // any numbers: what does not fit is not written, and what is not there is not read.
 //
 // equality: whether two are the same    writing: over a buffer    number: big-endian numbers    limits: the longest item
+#![tactic(auto)]
+
 mod equality;
 pub mod limits;
 mod number;

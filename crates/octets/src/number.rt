@@ -6,7 +6,7 @@ ghost use Rattle.octets.specs.Numbers.{width_of, be, unbe};
 use crate::writing::copy;
 
 // How many bytes a number has: no other count can be given.
-#[derive(Drop)]
+#[derive(Clone, Copy)]
 pub enum Width {
     One,
     Two,

@@ -1,9 +1,12 @@
 // Does the work whose time reference/bench measures, since the library for C has no growing tree. Each byte of standard input names a job over the same
 // 65,536 leaf hashes, by SHA-256. Its answer is 32 bytes that depend on all of the work; zeros, where a call is refused. Any other byte ends the program.
+#![tactic(auto)]
+
 use growing::Growing;
 use growing::add::add_leaves;
 use hash::{Algorithm, Digest};
-use libc::{STDIN_FILENO, STDOUT_FILENO};
+use std::io;
+use std::io::Read;
 
 const BYTES: usize = 2_097_152;
 
@@ -100,37 +103,42 @@ fn all_roots(leaves: &[u8]) -> Digest {
     all
 }
 
-// Whether the answer was written.
-fn answer(h: Digest) -> bool {
+// Writes the answer of a job: true, once it is written.
+fn answer(rt: &impl Print, h: Digest) -> io::Result<bool> {
     let bytes = h.bytes;
-    io::write_all(STDOUT_FILENO, &bytes)
+    rt.write_all(&bytes)?;
+    Ok(true)
 }
 
-fn job(name: u8, leaves: &[u8]) -> bool {
+// Whether a byte names a job. Then its answer is written.
+fn job(rt: &impl Print, name: u8, leaves: &[u8]) -> io::Result<bool> {
     match name {
-        b'h' => answer(node_hashes(leaves.len() / 32)),
-        b'a' => answer(at_once(leaves)),
-        b'e' => answer(one_by_one(leaves)),
-        b'r' => answer(all_roots(leaves)),
-        _ => false,
+        b'h' => answer(rt, node_hashes(leaves.len() / 32)),
+        b'a' => answer(rt, at_once(leaves)),
+        b'e' => answer(rt, one_by_one(leaves)),
+        b'r' => answer(rt, all_roots(leaves)),
+        _ => Ok(false),
     }
 }
 
 // The next byte of the input, or 0 at its end.
-fn next() -> u8 {
+fn next(stdin: &mut impl Read) -> io::Result<u8> {
     let mut one = [0; 1];
-    libc::read(STDIN_FILENO, &mut one);
-    one[0]
+    stdin.read(&mut one)?;
+    Ok(one[0])
 }
 
-fn main() {
+fn main(rt: HostRuntime) -> io::Result<()> {
+    let mut stdin = rt.stdin();
     let mut leaves = zeros();
     fill(&mut leaves);
     let mut turns = u64::MAX;
     while 0 < turns {
-        if !job(next(), &leaves) {
-            return;
+        let name = next(&mut stdin)?;
+        if !job(&rt, name, &leaves)? {
+            return Ok(());
         }
         turns -= 1;
     }
+    Ok(())
 }

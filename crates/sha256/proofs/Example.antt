@@ -1,5 +1,5 @@
 -- The published example, computed by the definitions of specs/. Assumes nothing.
-use mathlib.Core.Path.{◌≡◌, refl, sym}
+use mathlib.Core.Path.{◌≡◌, refl, ap, sym}
 use mathlib.Core.List.{List, [], ◌∷◌}
 use Prim.Native.Nat.{ℕ, zero, suc, ◌<◌, ◌≤◌}
 use native.Mathlib.Omega.{arith}
@@ -40,7 +40,7 @@ by_words = refl
 
 by_rounds : compress initial example_block ≡ add_state (rounds (λ t. get_or words t 0) initial 64) initial
 unfolding compress
-by_rounds = rw (rounds_from example_block words by_words initial 64 (omega arith))
+by_rounds = ap (λ (s : State). add_state s initial) (rounds_from example_block words by_words initial 64 (omega arith))
 
 pub hashed : ExampleHashes
 unfolding constants words round rounds add_state

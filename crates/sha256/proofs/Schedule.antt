@@ -11,7 +11,7 @@ use Rattle.words.specs.declared.State.{State}
 use Rattle.words.specs.Known.{Known, course, value}
 use Rattle.words.specs.Going.{Longer}
 use Rattle.words.proofs.Growing.{grow, course_length, course_at}
-use Rattle.sha256.specs.Sha256.{constants, next_word, word_after, schedule, word, rounds, round}
+use Rattle.sha256.specs.Sha256.{constants, next_word, word_after, schedule, word, rounds}
 use Rattle.sha256.specs.Inner.{Scheduled, round_at, rounds_over}
 
 -- ---- the schedule as a list, and word by word

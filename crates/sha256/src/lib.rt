@@ -1,5 +1,7 @@
 // SHA-256's block step and its first hash value (FIPS 180-4, sections 4.1.2, 4.2.2, 5.3.3 and 6.2.2). Padding, digests and the hashes of the tree are
 // the crate hash's.
+#![tactic(auto)]
+
 ghost use Rattle.std.specs.Prelude.{◌≡◌, ◌+◌, ◌<◌, ◌≤◌, length};
 ghost use Rattle.words.specs.Words.{word_from};
 ghost use Rattle.words.specs.Going.{Longer, Goes};

@@ -1,5 +1,5 @@
 -- The standard's example: the words of the block of `abc`, and its digest, computed by the definitions of specs/. Assumes nothing.
-use mathlib.Core.Path.{◌≡◌, refl, sym}
+use mathlib.Core.Path.{◌≡◌, refl, ap, ap₂, sym}
 use mathlib.Core.List.{List, ◌++◌}
 use Prim.Native.Nat.{ℕ, zero, suc, ◌+◌, ◌<◌, ◌≤◌}
 use native.Mathlib.Omega.{arith}
@@ -24,7 +24,7 @@ module _ (x : ℕ → ℕ) (ws : List ℕ) (e : course (word_after x) 68 ≡ ws)
 
   pair_from_lem : (j : ℕ) → j < 64 → pair x j ≡ pair_from ws j
   unfolding pair pair_from
-  pair_from_lem j h = rw (word_from_lem j (omega arith), word_from_lem (j + 4) (omega arith))
+  pair_from_lem j h = ap₂ bit_xor (word_from_lem j (omega arith)) (word_from_lem (j + 4) (omega arith))
 
   schedule_from : schedule x ≡ ws ++ listed (pair_from ws) 64
   unfolding schedule word
@@ -50,7 +50,7 @@ expanded = rw (schedule_from block words by_words, by_pairs)
 
 by_rounds : compress initial block ≡ xor_state (rounds (λ j. get_or words j 0) (pair_from words) initial 64) initial
 unfolding compress
-by_rounds = rw (rounds_from block words by_words initial 64 (omega arith))
+by_rounds = ap (λ (s : State). xor_state s initial) (rounds_from block words by_words initial 64 (omega arith))
 
 pub hashed : ExampleHashes
 unfolding constant pair_from words turned round rounds xor_state

@@ -1,4 +1,6 @@
 // SM3's block step and its initial value (GB/T 32905-2016, sections 4 and 5.3). Padding, digests and the hashes of the tree are the crate hash's.
+#![tactic(auto)]
+
 ghost use Rattle.std.specs.Prelude.{◌≡◌, ◌+◌, ◌*◌, ◌<◌, ◌≤◌, length};
 ghost use Rattle.words.specs.Words.{rotl, word_from};
 ghost use Rattle.words.specs.Known.{listed};

@@ -65,8 +65,8 @@ module _ (H : List ℕ → List ℕ) where
       let q = neither (eqb size 0) _ p.inside in
       let r = neither (ltb largest_size size) _ q.1 in
       record {
-        leaf_32 = p.one-32;
-        root_32 = p.two-32;
+        leaf_32 = p.one_32;
+        root_32 = p.two_32;
         below = leb-false size place r.1;
         in_range = ltb-false largest_size size r.0;
         counted = p.counted;
@@ -76,7 +76,7 @@ module _ (H : List ℕ → List ℕ) where
   pub inclusion_accepts : (leaf : List ℕ) (place size : ℕ) (root path : List ℕ) → Inclusion H leaf place size root path → inclusion_verdict H leaf place size root path ≡ 0
   unfolding inclusion_verdict
   inclusion_accepts leaf place size root path p =
-      sym (right_0 leaf root path (no_place place size) (inclusion_count place size) (same (inclusion_root H place size leaf (nodes path)) root) p.leaf-32 p.root-32 (omega arith) (place_in place size (λ e. omega arith) p.in-range p.below) (omega arith) (same_of _ root p.yields))
+      sym (right_0 leaf root path (no_place place size) (inclusion_count place size) (same (inclusion_root H place size leaf (nodes path)) root) p.leaf_32 p.root_32 (omega arith) (place_in place size (λ e. omega arith) p.in_range p.below) (omega arith) (same_of _ root p.yields))
 
   pub consistency_accepted : (first second : ℕ) (root₁ root₂ path : List ℕ) → consistency_verdict H first second root₁ root₂ path ≡ 0 → Consistency H first second root₁ root₂ path
   unfolding consistency_verdict no_sizes
@@ -86,8 +86,8 @@ module _ (H : List ℕ → List ℕ) where
       let r = neither (ltb largest_size second) _ q.1 in
       let s = each (same (old_root H first second true root₁ (nodes path)) root₁) _ p.agreed in
       record {
-        first_32 = p.one-32;
-        second_32 = p.two-32;
+        first_32 = p.one_32;
+        second_32 = p.two_32;
         some = omega (arith, eqb-false first 0 q.0);
         order = ltb-false second first r.1;
         in_range = ltb-false largest_size second r.0;
@@ -99,8 +99,8 @@ module _ (H : List ℕ → List ℕ) where
   pub consistency_accepts : (first second : ℕ) (root₁ root₂ path : List ℕ) → Consistency H first second root₁ root₂ path → consistency_verdict H first second root₁ root₂ path ≡ 0
   unfolding consistency_verdict
   consistency_accepts first second root₁ root₂ path p =
-      sym (right_0 root₁ root₂ path (no_sizes first second) (consistency_count first second) (same (old_root H first second true root₁ (nodes path)) root₁ && same (new_root H first second true root₁ (nodes path)) root₂) p.first-32 p.second-32 (omega arith) (sizes_in first second (λ e. omega arith) p.in-range p.order) (omega arith)
-      (both_agree _ _ (same_of _ root₁ p.yields-first) (same_of _ root₂ p.yields-second)))
+      sym (right_0 root₁ root₂ path (no_sizes first second) (consistency_count first second) (same (old_root H first second true root₁ (nodes path)) root₁ && same (new_root H first second true root₁ (nodes path)) root₂) p.first_32 p.second_32 (omega arith) (sizes_in first second (λ e. omega arith) p.in_range p.order) (omega arith)
+      (both_agree _ _ (same_of _ root₁ p.yields_first) (same_of _ root₂ p.yields_second)))
 
   pub accepts : Accepts H
   accepts = record {
@@ -123,7 +123,7 @@ module _ (H : List ℕ → List ℕ) where
       λ e.
           let p = consistency_accepted n n root₁ root₂ path e in
           let k = none_counted n z in
-          (nothing path (omega arith), sym (((equations H).new n n root₁ (nodes path) z).known refl) ∙ p.yields-second),
+          (nothing path (omega arith), sym (((equations H).new n n root₁ (nodes path) z).known refl) ∙ p.yields_second),
       λ p.
           let k = none_counted n z in
           let q = ap length p.0 in

@@ -1,13 +1,11 @@
 -- The laws of `split` and `shape`: all arithmetic of the tree's laws is here. Assumes nothing.
 use mathlib.Core.Path.{◌≡◌, refl, sym, ap, ap₂, ◌∙◌}
-use mathlib.Core.Bool.{Bool, true, false}
-use mathlib.Core.Logic.{◌⊎◌, inl, inr, ⊎_elim}
+use mathlib.Core.Logic.{⊎_elim}
 use Prim.Native.Nat.{ℕ, zero, suc, ◌+◌, ◌-◌, ◌*◌, ◌^◌, ◌≤◌, ◌<◌}
 use native.Mathlib.Omega.{arith}
 use native.Mathlib.Nat.{pow-succ', pow-le-pow_right}
 use lib.Count.{count_leading_zeros, leading_top}
-use lib.Dec.{ltb}
-use borrow.Author.Tests.{ltb-true, ltb-false, lt-ltb, le-ltb}
+use borrow.Author.Tests.{lt-ltb, le-ltb}
 use Rattle.octets.proofs.Order.{lt_or_ge}
 use Rattle.tree.specs.Split.{doubled, split, one, fork, size, shape_in, shape}
 use Rattle.tree.specs.Equations.{SplitIs}
@@ -119,28 +117,28 @@ split_same n m h p q =
     doubled_same n m 1 n m (omega arith) (omega arith) (omega arith) (omega arith) p q
 
 -- the bound on the depth does not matter
-shapeIn-more : (f n : ℕ) → 1 < n → shape_in (suc f) n ≡ fork (shape_in f (split n)) (shape_in f (n - split n))
+shape_in_more : (f n : ℕ) → 1 < n → shape_in (suc f) n ≡ fork (shape_in f (split n)) (shape_in f (n - split n))
 unfolding shape_in
-shapeIn-more f n h = rw (lt-ltb 1 n h, shape_in)
+shape_in_more f n h = rw (lt-ltb 1 n h, shape_in)
 
-shapeIn-stop : (f n : ℕ) → n ≤ 1 → shape_in f n ≡ one
+shape_in_stop : (f n : ℕ) → n ≤ 1 → shape_in f n ≡ one
 unfolding shape_in
-shapeIn-stop zero n h = refl
-shapeIn-stop (suc f) n h = rw (le-ltb 1 n h, shape_in)
+shape_in_stop zero n h = refl
+shape_in_stop (suc f) n h = rw (le-ltb 1 n h, shape_in)
 
-shapeIn-same : (f g n : ℕ) → n ≤ f → n ≤ g → shape_in f n ≡ shape_in g n
+shape_in_same : (f g n : ℕ) → n ≤ f → n ≤ g → shape_in f n ≡ shape_in g n
 unfolding shape_in
-shapeIn-same zero g n p q = sym (shapeIn-stop g n (omega arith))
-shapeIn-same (suc f) zero n p q = shapeIn-stop (suc f) n (omega arith)
-shapeIn-same (suc f) (suc g) n p q =
+shape_in_same zero g n p q = sym (shape_in_stop g n (omega arith))
+shape_in_same (suc f) zero n p q = shape_in_stop (suc f) n (omega arith)
+shape_in_same (suc f) (suc g) n p q =
     ⊎_elim (λ h. let s = split_ends n h in
-    shapeIn-more f n h ∙ ap₂ fork (shapeIn-same f g (split n) (omega arith) (omega arith)) (shapeIn-same f g (n - split n) (omega arith) (omega arith)) ∙ sym (shapeIn-more g n h))
-    (λ h. shapeIn-stop (suc f) n h ∙ sym (shapeIn-stop (suc g) n h))
+    shape_in_more f n h ∙ ap₂ fork (shape_in_same f g (split n) (omega arith) (omega arith)) (shape_in_same f g (n - split n) (omega arith) (omega arith)) ∙ sym (shape_in_more g n h))
+    (λ h. shape_in_stop (suc f) n h ∙ sym (shape_in_stop (suc g) n h))
     (lt_or_ge 1 n)
 
 pub shape_few : (n : ℕ) → n ≤ 1 → shape n ≡ one
 unfolding shape
-shape_few n h = shapeIn-stop n n h
+shape_few n h = shape_in_stop n n h
 
 pub shape_one : shape 1 ≡ one
 shape_one = shape_few 1 (omega arith)
@@ -150,7 +148,7 @@ unfolding shape
 shape_fork zero h = absurd (omega arith)
 shape_fork (suc m) h =
     let s = split_ends (suc m) h in
-    shapeIn-more m (suc m) h ∙ ap₂ fork (shapeIn-same m (split (suc m)) (split (suc m)) (omega arith) (omega arith)) (shapeIn-same m (suc m - split (suc m)) (suc m - split (suc m)) (omega arith) (omega arith))
+    shape_in_more m (suc m) h ∙ ap₂ fork (shape_in_same m (split (suc m)) (split (suc m)) (omega arith) (omega arith)) (shape_in_same m (suc m - split (suc m)) (suc m - split (suc m)) (omega arith) (omega arith))
 
 -- what holds of one leaf, and of n > 1 leaves if of both parts, holds of all n > 0
 below : (P : ℕ → Type 0) → P 1 → ((n : ℕ) → 1 < n → P (split n) → P (n - split n) → P n) → (f n : ℕ) → 0 < n → n ≤ f → P n

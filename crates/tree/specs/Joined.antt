@@ -1,5 +1,5 @@
 -- Hashes joined in one buffer, 32 bytes each. Assumes nothing: these are definitions.
-use Rattle.std.specs.Prelude.{cond, List, [], ◌∷◌, ◌++◌, ℕ, zero, suc, ◌+◌, ◌*◌, ◌/◌, leb, length, take, drop, replicate}
+use Rattle.std.specs.Prelude.{cond, List, [], ◌∷◌, ℕ, zero, suc, ◌+◌, ◌*◌, ◌/◌, leb, length, take, drop, replicate}
 
 -- the first n hashes that s joins
 unfoldable pub first_nodes : ℕ → List ℕ → List (List ℕ)

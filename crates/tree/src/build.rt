@@ -12,7 +12,7 @@ use super::refusal::{JOINED, RANGE, ROOM};
 use hash::{Algorithm, Digest, Hashed};
 
 // What a builder answers: how many bytes it wrote, or the number of its refusal.
-#[derive(Drop)]
+#[derive(Clone, Copy)]
 pub enum Built {
     Wrote(usize),
     Refused(u32),

@@ -2,6 +2,8 @@
 // paths from leaf hashes, and the verdicts on inclusion and consistency proofs. What crates above build on is public, takes any numbers and any
 // buffers, and goes by an `Algorithm`; the entries, in by_number, go by its number. specs/ has the definitions over any hash; proofs/ has the laws
 // that crates above may cite.
+#![tactic(auto)]
+
 pub mod by_number; // the entries: builders and verdicts by the number of a hash
 pub mod build; // roots and paths, from joined leaf hashes into a lent output
 pub mod verdict; // both verdicts

@@ -50,7 +50,7 @@ pub fn yielded_root(alg: Algorithm, leaf: Digest, place: u64, size: u64, path: &
 }
 
 // The roots of the first leaves and of all.
-#[derive(Drop)]
+#[derive(Clone, Copy)]
 pub struct Roots {
     pub old: Digest,
     pub new: Digest,

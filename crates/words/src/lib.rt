@@ -1,4 +1,6 @@
 // What the block steps of SHA-256 and SM3 share: words of 32 bits, the hash value of eight of them, and the words of a block.
+#![tactic(auto)]
+
 ghost use Rattle.std.specs.Prelude.{◌≡◌, [], ◌∷◌};
 ghost use Rattle.octets.specs.Numbers.{unbe};
 ghost use Rattle.words.specs.Words.{add32};
@@ -6,7 +8,7 @@ ghost use Rattle.words.specs.Known.{loaded};
 ghost use Rattle.words.specs.Claims.{RotationsAgree, LoadedIsKnown, EveryStep, StepLosesNothing};
 
 // A hash value: eight words.
-#[derive(Drop)]
+#[derive(Clone, Copy)]
 pub struct State {
     pub a: u32,
     pub b: u32,
@@ -19,7 +21,7 @@ pub struct State {
 }
 
 // What a block step answers.
-#[derive(Drop)]
+#[derive(Clone, Copy)]
 pub enum Stepped {
     Done(State),
     Refused(u32),

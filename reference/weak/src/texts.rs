@@ -3,13 +3,17 @@
 /// Texts that are no part of a crate as it is known here, each to be refused, and one to be taken.
 pub fn own_tests() -> Vec<(&'static str, bool)> {
     let refused = [
-        "fn f() requires { ⌜ x ⌝ } fn g() {}\n",
-        "fn f()\n    ensures { λ r. ⌜ r ⌝\n{\n    1;\n}\n",
+        "fn f() requires { x } fn g() {}\n",
+        "fn f()\n    ensures { result\n{\n    1;\n}\n",
         "fn f()\n    decreases { n }\n{}\n",
         "fn f() {\n    ghost let x = 1;\n}\n",
-        "fn f() {\n    invariant ⌜ x ⌝\n}\n",
+        "fn f() {\n    invariant { x ≡ 1 }\n}\n",
         "fn f() {\n    unsafe { 1 }\n}\n",
         "#[inline]\nfn f() {}\n",
+        "#[tactic(auto)] fn f() {}\n",
+        "#[tactic(auto)\nfn f() {}\n",
+        "#[derive(Clone, Copy, Drop)]\nstruct S {\n    a: u8,\n}\n",
+        "fn f() {\n    #[tactic(auto)]\n    1;\n}\n",
         "ghost fn f() {}\n",
         "ghost use a.b.{c}; fn f() {}\n",
         "ghost use a.b.{c,\nfn f() {\n    1;\n}\n",
@@ -22,18 +26,18 @@ pub fn own_tests() -> Vec<(&'static str, bool)> {
         "/* text */\n",
         "fn f() {\n    g(\"text\");\n}\n",
         "fn f() {\n    g(x?);\n}\n",
-        "fn f()\n    ensures { λ r. ⌜ r ⌝ } {\n    1;\n}\n",
+        "fn f()\n    ensures { result } {\n    1;\n}\n",
         "fn f() {\n",
         "impl S {\n    const X: u8 = 1;\n}\n",
         "mod m { fn f() {} }\n",
         "let x = 1;\n",
     ];
-    let taken = "// why\nghost use a.b.{c};\nghost use a.b.{\n    d,\n};\npub(crate) struct S {\n    pub a: [u8; 2],\n}\n\
-                 fn f<'a>(s: &'a [u8]) -> [u8; 2]\n    requires { ⌜ x ⌝ }\n    ensures it_holds { λ r.\n        ⌜ r .{a} ⌝ }\n\
+    let taken = "// why\n#![tactic(auto)]\nghost use a.b.{c};\nghost use a.b.{\n    d,\n};\n#[derive(Clone, Copy)]\npub(crate) struct S {\n    pub a: [u8; 2],\n}\n\
+                 #[tactic(\n    auto,\n    using(crate::a[1]),\n)]\nfn f<'a>(s: &'a [u8]) -> [u8; 2]\n    requires { x }\n    ensures it_holds {\n        result.{a} }\n\
                  {\n    let x = b\"\\\"}\";\n    crate::g(b'}', x)\n}\n";
     refused.into_iter().map(|text| (text, false)).chain([(taken, true)]).collect()
 }
 
 /// What `own_tests` expects of its last text.
-pub const TAKEN: &str = "#[derive(Clone, Copy)] pub(crate) struct S {\n    pub a: [u8; 2],\n}\nfn f<'a>(s: &'a [u8]) -> [u8; 2]\n{\n    \
+pub const TAKEN: &str = "#[derive(Clone, Copy)]\npub(crate) struct S {\n    pub a: [u8; 2],\n}\nfn f<'a>(s: &'a [u8]) -> [u8; 2]\n{\n    \
                          let x = b\"\\\"}\";\n    here::g(b'}', x)\n}\n";

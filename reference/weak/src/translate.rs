@@ -1,5 +1,5 @@
-//! Rattle's text as Rust: `ghost use` lines and the clauses of contracts go, structs and enums
-//! become `Copy`, `crate` and `std::num` get their new paths; every other byte of code stays. What
+//! Rattle's text as Rust: `ghost use` lines, the clauses of contracts and the attributes that speak
+//! to the prover go, `crate` and `std::num` get their new paths; every other byte of code stays. What
 //! is not known here is an error, so that nothing is dropped by accident.
 
 use std::path::Path;
@@ -17,6 +17,7 @@ pub struct Done {
     pub functions: usize,
     pub clauses: usize,
     pub ghost_lines: usize,
+    pub attributes: usize,
     pub public: Vec<Public>,
     /// Public functions of modules that callers do not see.
     hidden: Vec<Public>,
@@ -28,10 +29,13 @@ impl Done {
     /// A hidden function that a `pub use` passes on is public by the name that this gives it.
     pub fn pass_on(&mut self) {
         for (module, path) in std::mem::take(&mut self.passed_on) {
-            let whole = format!("{module}::{path}");
-            if let Some(at) = self.hidden.iter().position(|one| one.name == whole) {
-                let name = format!("{module}::{}", path.rsplit("::").next().unwrap());
-                self.public.push(Public { name, is_empty: self.hidden[at].is_empty });
+            let (before, names) = path.trim_end_matches('}').split_once('{').unwrap_or(("", &path));
+            for name in names.split(',').map(str::trim).filter(|name| !name.is_empty()) {
+                let whole = format!("{module}::{before}{name}");
+                if let Some(at) = self.hidden.iter().position(|one| one.name == whole) {
+                    let name = format!("{module}::{}", name.rsplit("::").next().unwrap());
+                    self.public.push(Public { name, is_empty: self.hidden[at].is_empty });
+                }
             }
         }
     }
@@ -49,7 +53,8 @@ pub struct Crate<'a> {
 }
 
 /// Words that Rattle has and code does not, or that the rest of this file does not know.
-const NOT_IN_CODE: [&str; 15] = [
+const NOT_IN_CODE: [&str; 16] = [
+    "#",
     "ghost",
     "requires",
     "ensures",
@@ -66,6 +71,12 @@ const NOT_IN_CODE: [&str; 15] = [
     "move",
     "yield",
 ];
+
+/// How the attributes begin that speak to the prover alone.
+const TO_THE_PROVER: [&str; 3] = ["#![tactic(", "#[tactic(", "#[cycle("];
+
+/// The one attribute that is code.
+const DERIVE: &str = "#[derive(Clone, Copy)]";
 
 impl Crate<'_> {
     /// A module's file and those that its `mod` items name, which lie in `folder`. `name` is the
@@ -85,10 +96,14 @@ impl Crate<'_> {
     /// A line of code that does not come out, in the order of the lines: found by the lines alone.
     fn lost<'a>(&self, text: &'a str, out: &str) -> Option<&'a str> {
         let mut at = 0;
-        // Open braces of a clause, or of a `ghost use`.
-        let mut depth = 0;
+        // Open braces of a clause, or of a `ghost use`; open brackets of an attribute.
+        let (mut depth, mut brackets) = (0, 0);
         text.lines().find(|line| {
             let code = line.split("//").next().unwrap().trim();
+            if brackets > 0 || TO_THE_PROVER.iter().any(|start| code.starts_with(start)) {
+                brackets = (brackets + line.matches('[').count()).saturating_sub(line.matches(']').count());
+                return false;
+            }
             if depth > 0 || ["ghost ", "requires ", "ensures "].iter().any(|word| code.starts_with(word)) {
                 depth = (depth + line.matches('{').count()).saturating_sub(line.matches('}').count());
                 return false;
@@ -164,7 +179,7 @@ impl<'a> Reader<'a> {
             word(1)
         } else if rest.starts_with("::") {
             2
-        } else if "{}()[]<>,;:.=+-*/%&|^!".contains(first) && !rest.starts_with("/*") {
+        } else if "{}()[]<>,;:.=+-*/%&|^!#".contains(first) && !rest.starts_with("/*") {
             1
         } else {
             return Err(format!("unknown text: {}", rest.lines().next().unwrap()));
@@ -232,8 +247,9 @@ impl<'a> Reader<'a> {
         if self.is_next("ghost")? {
             return self.ghost_line();
         }
-        // A derive stands before all else.
-        let start = self.out.len();
+        if self.is_next("#")? {
+            return self.attribute();
+        }
         let mut is_open = false;
         if self.is_next("pub")? {
             self.copy()?;
@@ -256,7 +272,6 @@ impl<'a> Reader<'a> {
             "const" | "type" => self.through(";"),
             "mod" => self.inner_module(is_open),
             "struct" => {
-                self.out.insert_str(start, "#[derive(Clone, Copy)] ");
                 self.name()?;
                 if self.is_next("(")? {
                     return self.through(";");
@@ -267,7 +282,6 @@ impl<'a> Reader<'a> {
                 self.block()
             }
             "enum" => {
-                self.out.insert_str(start, "#[derive(Clone, Copy)] ");
                 self.name()?;
                 self.block()
             }
@@ -375,6 +389,30 @@ impl<'a> Reader<'a> {
         }
         self.at += line.len();
         self.done.ghost_lines += 1;
+        Ok(())
+    }
+
+    /// An attribute, which ends its line: a derive is copied, what speaks to the prover is not.
+    fn attribute(&mut self) -> Result<(), String> {
+        let rest = &self.text[self.at..];
+        let mut depth = 0;
+        let end = rest.char_indices().find(|&(_, c)| {
+            depth += (c == '[') as usize;
+            depth -= (c == ']' && depth > 0) as usize;
+            c == ']' && depth == 0
+        });
+        let attribute = &rest[..end.ok_or("an attribute without an end")?.0 + 1];
+        if !rest[attribute.len()..].starts_with('\n') {
+            return Err("an attribute does not end its line".to_string());
+        }
+        if attribute == DERIVE {
+            self.out.push_str(attribute);
+        } else if TO_THE_PROVER.iter().any(|start| attribute.starts_with(start)) {
+            self.done.attributes += 1;
+        } else {
+            return Err(format!("an attribute that is not known: {attribute}"));
+        }
+        self.at += attribute.len();
         Ok(())
     }
 

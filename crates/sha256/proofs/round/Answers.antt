@@ -1,0 +1,6 @@
+use Rattle.sha256.specs.Sha256.{round}
+use Rattle.sha256.proofs.round.Goals as goal
+
+pub returns : goal.returns
+unfolding round
+returns c = cc

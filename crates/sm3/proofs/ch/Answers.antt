@@ -1,0 +1,6 @@
+use borrow.Author.Rules.{rules}
+use Rattle.sm3.proofs.Bitwise.{choose_by_lem}
+use Rattle.sm3.proofs.ch.Goals as goal
+
+pub returns : goal.returns
+returns c = choose_by_lem c.args.x c.args.y c.args.z (search rules) (search rules) (search rules)
