@@ -87,4 +87,5 @@ KeptIsEvidence =
 abbrev pub HonestLeavesNone : Type 0
 HonestLeavesNone =
     (a : Algorithm) (id : List ℕ) (pages : List (List ℕ)) (calls : List Call) → 2 ≤ length id → length id ≤ 127 → length pages ≤ largest_size →
-    ((i : ℕ) → length (get_or pages i []) ≤ most_item) → Served (hash_of a) id pages 0 0 calls → second (final empty_record (map (under (number_of a)) calls)) ≡ none
+    ((i : ℕ) → length (get_or pages i []) ≤ most_item) →
+    Served (hash_of a) id pages 0 0 calls → second (final empty_record (map (under (number_of a)) calls)) ≡ none

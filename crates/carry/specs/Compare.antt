@@ -51,7 +51,8 @@ module _ (H : List ℕ → List ℕ) where
   differ_of one m h p g q = alike
   differ_of (fork a b) m h p g q =
       cond (ltb m (size a))
-      (topmost (string (inclusion_root_of H a m h (init p)) (last p)) (string (inclusion_root_of H a m g (init q)) (last q)) (differ_of a m h (init p) g (init q)))
+      (topmost (string (inclusion_root_of H a m h (init p)) (last p)) (string (inclusion_root_of H a m g (init q)) (last q))
+      (differ_of a m h (init p) g (init q)))
       (topmost (string (last p) (inclusion_root_of H b (m - size a) h (init p))) (string (last q) (inclusion_root_of H b (m - size a) g (init q)))
       (differ_of b (m - size a) h (init p) g (init q)))
 

@@ -63,7 +63,8 @@ module _ (H : List ℕ → List ℕ) where
       cond (eqb m (size a + size b)) alike
       (cond (leb m (size a)) (conflict_of a m x h p f (init q))
       (cond (ltb x (size a))
-      (topmost (string (inclusion_root_of H a x h (init p)) (last p)) (string (last q) (consistency_root_of H (λ y z. y) b (m - size a) false f (init q))) alike)
+      (topmost (string (inclusion_root_of H a x h (init p)) (last p))
+      (string (last q) (consistency_root_of H (λ y z. y) b (m - size a) false f (init q))) alike)
       (topmost (string (last p) (inclusion_root H (x - size a) (m - size a) h (init p)))
       (string (last q) (consistency_root_of H (λ y z. y) b (m - size a) false f (init q)))
       (conflict_of b (m - size a) (x - size a) h (init p) f (init q)))))
