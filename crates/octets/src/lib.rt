@@ -7,6 +7,7 @@
 mod equality;
 pub mod limits;
 mod number;
+pub mod refusal;
 mod writing;
 
 ghost use Rattle.octets.specs.Claims.{SameIsEqual, JoinedIs, PutKeeps, NumberReadsBack, BytesWriteBack, NumbersAreBytes};
