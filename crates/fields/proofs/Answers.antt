@@ -1,8 +1,9 @@
 -- Answers that are good, and answers that are refusals. Assumes nothing.
-use mathlib.Core.Path.{◌≡◌}
+use mathlib.Core.Path.{◌≡◌, ap}
 use Prim.Native.Nat.{ℕ}
 use native.Mathlib.Omega.{arith}
-use Rattle.fields.specs.declared.layout.Inside.TheVariants.{Fine, Wrong}
+use Rattle.std.specs.Prelude.{Result, Ok, Err}
+use Rattle.std.specs.Result.{IsErrAnd}
 use Rattle.fields.specs.Checked.{Checked, good, bad}
 
 pub bad_good : {A B : Type 0} (x y : ℕ) (a : A) → bad x y ≡ good a → B
@@ -20,9 +21,7 @@ same_place x y p q e = cc
 pub same_number : {A : Type 0} (x y p q : ℕ) → ◌≡◌ {A = Checked A} (bad x p) (bad y q) → y ≡ x
 same_number x y p q e = cc
 
--- bodies that are fine, and bodies that are refused
-pub wrong_fine : {A : Type 0} (x y : ℕ) → Wrong x y ≡ Fine → A
-wrong_fine x y e = absurd (let z : ◌≡◌ {A = ℕ} 0 1 = cc in omega arith)
-
-pub same_wrong : (x y p q : ℕ) → Wrong x p ≡ Wrong y q → (x ≡ y) × (p ≡ q)
-same_wrong x y p q e = (cc, cc)
+-- a refusal that is passed on by `?` is the callee's
+pub passed_on : {A E : Type 0} (r : Result A E) (e : E) → IsErrAnd r (λ y. y ≡ e) → r ≡ Err e
+passed_on (Ok a) e h = absurd h
+passed_on (Err x) e h = ap Err h

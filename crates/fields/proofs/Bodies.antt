@@ -10,25 +10,29 @@ use lib.Seq.{take_at, drop_at, length-take-le}
 use borrow.Author.Tests.{ltb-false, eqb-true, eq-eqb}
 use Rattle.fields.specs.declared.layout.Inner.{Inner}
 use Rattle.fields.specs.declared.layout.Inner.TheVariants.{Opaque, ExtensionList, NodeList}
-use Rattle.fields.specs.declared.layout.Step.{Step}
-use Rattle.fields.specs.declared.layout.Step.TheVariants.{Size, Not}
-use Rattle.fields.specs.declared.layout.Inside.TheVariants.{Fine}
-use Rattle.fields.specs.Layout.{element, elements, inside_from, inside, past}
-use Rattle.fields.proofs.Answers.{wrong_fine}
+use Rattle.fields.specs.Layout.{element, elements, inside_from, inside, past, sized}
 use Rattle.fields.specs.Write.{prefixed, stripped, wrap, unwrap, body_size, wholes}
+use Rattle.fields.specs.Checked.{good}
+use Rattle.octets.specs.Answer.{Answer, done, refused}
+use Rattle.fields.specs.declared.layout.Element.{Element}
+use Rattle.fields.proofs.Answers.{bad_good}
 
-not_size : {A : Type 0} (x n t : ℕ) → Not x ≡ Size n t → A
+not_size : {A : Type 0} (x n t : ℕ) → refused x ≡ sized n t → A
 not_size x n t e = absurd (let z : ◌≡◌ {A = ℕ} 0 1 = cc in omega arith)
 
-same_size : (m n t u : ℕ) → Size m t ≡ Size n u → n ≡ m
-same_size m n t u e = cc
+abbrev size_of : Answer Element → ℕ
+size_of (done e) = e.len
+size_of (refused x) = 0
+
+same_size : (m n t u : ℕ) → sized m t ≡ sized n u → n ≡ m
+same_size m n t u e = sym (ap size_of e)
 
 -- an element of a path
-node : (last : ℕ) (b : List ℕ) (n t : ℕ) → element NodeList last b ≡ Size n t → (n ≡ 33) × (get_or b 0 0 ≡ 32) × (33 ≤ length b)
+node : (last : ℕ) (b : List ℕ) (n t : ℕ) → element NodeList last b ≡ sized n t → (n ≡ 33) × (get_or b 0 0 ≡ 32) × (33 ≤ length b)
 unfolding element
 node last b n t e = go (eqb (get_or b 0 0) 32) (ltb (length b) 33) refl refl e
   where
-    go : (p q : Bool) → eqb (get_or b 0 0) 32 ≡ p → ltb (length b) 33 ≡ q → cond p (cond q (Not 2) (Size 33 0)) (Not 5) ≡ Size n t → (n ≡ 33) × (get_or b 0 0 ≡ 32) × (33 ≤ length b)
+    go : (p q : Bool) → eqb (get_or b 0 0) 32 ≡ p → ltb (length b) 33 ≡ q → cond p (cond q (refused 2) (sized 33 0)) (refused 5) ≡ sized n t → (n ≡ 33) × (get_or b 0 0 ≡ 32) × (33 ≤ length b)
     go false q hp hq e = not_size 5 n t e
     go true true hp hq e = not_size 2 n t e
     go true false hp hq e = (same_size 33 n 0 t e, eqb-true _ _ hp, ltb-false _ _ hq)
@@ -61,20 +65,20 @@ one_more (x ∷ b) e h r =
           ∙ ap (λ (m : List ℕ). take 32 b ++ m) r.again ∙ take-append-drop 32 b);
     }
 
-hashes : (n last : ℕ) (b : List ℕ) (at : ℕ) → length b ≤ n → elements n NodeList last b at ≡ Fine → Hashes b
+hashes : (n last : ℕ) (b : List ℕ) (at : ℕ) → length b ≤ n → elements n NodeList last b at ≡ good tt → Hashes b
 unfolding elements
 hashes zero last b at h e = none b (omega arith)
 hashes (suc n) last b at h e = go (eqb (length b) 0) refl (element NodeList last b) refl e (λ m t. hashes n t (drop m b) (at + m))
   where
-    go : (q : Bool) → eqb (length b) 0 ≡ q → (x : Step) → element NodeList last b ≡ x → cond q Fine (past x at (λ m t. elements n NodeList t (drop m b) (at + m))) ≡ Fine → ((m t : ℕ) → length (drop m b) ≤ n → elements n NodeList t (drop m b) (at + m) ≡ Fine → Hashes (drop m b)) → Hashes b
+    go : (q : Bool) → eqb (length b) 0 ≡ q → (x : Answer Element) → element NodeList last b ≡ x → cond q (good tt) (past x at (λ m t. elements n NodeList t (drop m b) (at + m))) ≡ good tt → ((m t : ℕ) → length (drop m b) ≤ n → elements n NodeList t (drop m b) (at + m) ≡ good tt → Hashes (drop m b)) → Hashes b
     go true hq x hx e less = none b (eqb-true _ _ hq)
-    go false hq (Not y) hx e less = wrong_fine y at e
-    go false hq (Size m t) hx e less =
-        let z = node last b m t hx in
-        let f = less m t (simp length-drop (omega arith)) e in
+    go false hq (refused y) hx e less = bad_good y at tt e
+    go false hq (done d) hx e less =
+        let z = node last b d.len d.next hx in
+        let f = less d.len d.next (simp length-drop (omega arith)) e in
         one_more b z.1 z.2 (subst (λ (j : ℕ). Hashes (drop j b)) z.0 f)
 
-pub path_hashes : (b : List ℕ) (at : ℕ) → inside NodeList b at ≡ Fine → Hashes b
+pub path_hashes : (b : List ℕ) (at : ℕ) → inside NodeList b at ≡ good tt → Hashes b
 unfolding inside inside_from
 path_hashes b at e = hashes (length b) 0 b at (omega arith) e
 
@@ -84,7 +88,7 @@ pub record Body (i : Inner) (b : List ℕ) : Type 0 where
   pub size : body_size i (length (unwrap i b)) ≡ length b
   pub round : wholes i (length (unwrap i b)) ≡ true
 
-pub body : (i : Inner) (b : List ℕ) (at : ℕ) → inside i b at ≡ Fine → Body i b
+pub body : (i : Inner) (b : List ℕ) (at : ℕ) → inside i b at ≡ good tt → Body i b
 unfolding wrap unwrap body_size wholes
 body Opaque b at e = record { again = refl; size = refl; round = refl }
 body (ExtensionList o) b at e = record { again = refl; size = refl; round = refl }

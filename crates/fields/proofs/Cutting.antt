@@ -15,7 +15,6 @@ use Rattle.octets.proofs.Order.{lt_or_ge}
 use Rattle.fields.specs.declared.layout.Inner.{Inner}
 use Rattle.fields.specs.declared.layout.Field.{Field}
 use Rattle.fields.specs.declared.layout.Field.TheVariants.{Uint, Vector, OneOf, Fixed}
-use Rattle.fields.specs.declared.layout.FieldRead.TheVariants.{Bad}
 use Rattle.fields.specs.Checked.{Checked, good, bad, then}
 use Rattle.fields.specs.Layout.{number_at, vector_at, field, read}
 use Rattle.fields.specs.Write.{Value, uint, bytes, wrap, fill, laid, join, write}
@@ -27,11 +26,11 @@ use Rattle.fields.proofs.Laid.{read_stops, read_goes}
 use Rattle.fields.proofs.Vectors.{kept, cut_first}
 
 -- too few bytes for a number, or for a vector
-number_cut : (w : ℕ) (r : List ℕ) (at : ℕ) → length r < w → number_at w r at ≡ Bad 2 at
+number_cut : (w : ℕ) (r : List ℕ) (at : ℕ) → length r < w → number_at w r at ≡ bad 2 at
 unfolding number_at
 number_cut w r at h = rw (lt-ltb _ _ h)
 
-vector_cut : (w least most : ℕ) (i : Inner) (b : List ℕ) (k at : ℕ) → least ≤ length b → length b ≤ most → length b < 256 ^ w → k < w + length b → vector_at w least most i (take k (be w (length b) ++ b)) at ≡ Bad 2 at
+vector_cut : (w least most : ℕ) (i : Inner) (b : List ℕ) (k at : ℕ) → least ≤ length b → length b ≤ most → length b < 256 ^ w → k < w + length b → vector_at w least most i (take k (be w (length b) ++ b)) at ≡ bad 2 at
 unfolding vector_at
 vector_cut w least most i b k at low high fit h =
     let l : length (take k (be w (length b) ++ b)) ≡ k = length-take-le k (be w (length b) ++ b) (omega (arith, length-append (be w (length b)) b, be_length w (length b))) in
@@ -44,7 +43,7 @@ vector_cut w least most i b k at low high fit h =
     (lt_or_ge k w)
 
 -- a field that was filled, cut at any byte
-field_cut : (f : Field) (v : Value) (at : ℕ) (b : List ℕ) (k m : ℕ) → Typed f v → fill f v at ≡ good b → k < length b → field f (take k b) m ≡ Bad 2 m
+field_cut : (f : Field) (v : Value) (at : ℕ) (b : List ℕ) (k m : ℕ) → Typed f v → fill f v at ≡ good b → k < length b → field f (take k b) m ≡ bad 2 m
 field_cut (Uint w) (bytes v) at b k m t e h = absurd t
 field_cut (Uint w) (uint n) at b k m t e h =
     let l : length (take k b) ≡ k = length-take-le k b (omega arith) in

@@ -10,17 +10,19 @@ use contract.Lifetimes.{Lfts}
 use denote.Ref.{Bor}
 use denote.MutBor.{MutBor}
 use Rattle.fields.specs.declared.layout.Part.{Part}
-use Rattle.fields.specs.declared.writing.Written.{Written}
-use Rattle.fields.specs.declared.writing.Written.TheVariants.{Length, Refused as refused_at}
-use Rattle.fields.specs.Checked.{Checked, good, bad}
-use Rattle.fields.specs.Effect.{writing, Effect, wrote}
+use Rattle.std.specs.Prelude.{Result, Ok, Err}
+use Rattle.octets.specs.Refusals.{refusal_number}
+use Rattle.fields.specs.declared.layout.RefusedAt.{RefusedAt}
+use Rattle.fields.specs.Checked.{good, checked}
+use Rattle.fields.specs.Effect.{Effect, wrote}
 use Rattle.fields.specs.Path.{path_at, copy_path}
 use Rattle.fields.proofs.Answers.{bad_good, same_good}
 use Rattle.fields.proofs.Lent.{was_put}
+use Rattle.fields.proofs.Numbered.{Numbered, answer_of, answer_is, effect_numbered, path_numbered}
 use Rattle.fields.proofs.path.path_into.Reads as path-reads
 
 -- the copy of a path, with the lent bytes before and after
-pub record Copies (s : Bor (List ℕ)) (p : Part) (out out' : MutBor (List ℕ)) (a : Written) : Type 0 where
+pub record Copies (s : Bor (List ℕ)) (p : Part) (out out' : MutBor (List ℕ)) (a : Result ℕ RefusedAt) : Type 0 where
   pub lives : Lfts 2
   pub learnt : path-reads.Learnt lives (s, (p, (out, tt))) a (s, (p, (out', tt)))
 
@@ -29,17 +31,17 @@ pub record Through (s : Bor (List ℕ)) (p : Part) (w : List ℕ) : Type 0 where
   pub out : MutBor (List ℕ)
   pub after : MutBor (List ℕ)
   pub count : ℕ
-  pub copies : Copies s p out after (Length count)
+  pub copies : Copies s p out after (Ok count)
   pub is : w ≡ take count after.now
 
 -- whatever `path_into` answers where the lent bytes are long enough, it has copied this path
 abbrev pub Comes : Bor (List ℕ) → Part → List ℕ → Type 0
 Comes s p w =
-    (out after : MutBor (List ℕ)) (a : Written) → Copies s p out after a → length w ≤ length out.now → (a ≡ Length (length w)) × (after.now ≡ w ++ drop (length w) out.now)
+    (out after : MutBor (List ℕ)) (a : Result ℕ RefusedAt) → Copies s p out after a → length w ≤ length out.now → (a ≡ Ok (length w)) × (after.now ≡ w ++ drop (length w) out.now)
 
-pub written_length : (a : Written) (m : ℕ) → writing a ≡ good m → a ≡ Length m
-written_length (Length n) m e = ap Length (same_good n m e)
-written_length (refused_at x y) m e = bad_good x y m e
+pub written_length : (a : Result ℕ RefusedAt) (m : ℕ) → checked a ≡ good m → a ≡ Ok m
+written_length (Ok n) m e = ap Ok (same_good n m e)
+written_length (Err r) m e = bad_good (refusal_number r.refusal) r.place m e
 
 pub through_copied : (s : Bor (List ℕ)) (p : Part) (w : List ℕ) → Through s p w → path_at s.now p ≡ good w
 unfolding copy_path
@@ -65,15 +67,6 @@ ref l = record { ref_ptr = (0, 0); now = l }
 unfoldable pub mut_ref : List ℕ → MutBor (List ℕ)
 mut_ref l = record { ref_ptr = (0, 0); ghost_name = 0; now = l }
 
-unfoldable pub answer_of : Checked ℕ → Written
-answer_of (good n) = Length n
-answer_of (bad x at) = refused_at x at
-
-pub answer_is : (a : Checked ℕ) → writing (answer_of a) ≡ a
-unfolding answer_of
-answer_is (good n) = refl
-answer_is (bad x at) = refl
-
 pub copied_through : (s : List ℕ) (p : Part) (w : List ℕ) → path_at s p ≡ good w → Through (ref s) p w
 unfolding copy_path ref mut_ref
 copied_through s p w e =
@@ -91,7 +84,8 @@ pub comes_copied : (s : List ℕ) (p : Part) (w : List ℕ) → Comes (ref s) p 
 unfolding copy_path ref mut_ref
 comes_copied s p w c =
     let a = (copy_path s p w).answer in
-    let r = c (mut_ref w) (mut_ref (copy_path s p w).bytes) (answer_of a) (record { lives = ([], ([], tt)); learnt = (answer_is a, refl) }) (omega arith) in
-    let b = was_put (path_at s p) w (length w) (sym (answer_is a) ∙ ap writing r.0) in
+    let t : Numbered a = effect_numbered w (path_at s p) (path_numbered s p) in
+    let r = c (mut_ref w) (mut_ref (copy_path s p w).bytes) (answer_of a t) (record { lives = ([], ([], tt)); learnt = (answer_is a t, refl) }) (omega arith) in
+    let b = was_put (path_at s p) w (length w) (sym (answer_is a t) ∙ ap checked r.0) in
     let z : b.bytes ≡ w = sym (take_at b.bytes (drop (length w) w) (length w) (sym b.size)) ∙ ap (take (length w)) (sym b.after ∙ r.1) ∙ take_at w (drop (length w) w) (length w) refl in
     b.is ∙ ap good z

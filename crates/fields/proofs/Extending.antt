@@ -14,13 +14,12 @@ use Rattle.octets.proofs.Numbers.{be_length, unbe_be, be_unbe, unbe_below}
 use Rattle.fields.specs.declared.layout.Order.{Order}
 use Rattle.fields.specs.declared.layout.Order.TheVariants.{Ordered, Unordered}
 use Rattle.fields.specs.declared.layout.Inner.TheVariants.{ExtensionList}
-use Rattle.fields.specs.declared.layout.Step.TheVariants.{Size, Not}
-use Rattle.fields.specs.declared.layout.Inside.{Inside}
-use Rattle.fields.specs.declared.layout.Inside.TheVariants.{Fine, Wrong}
-use Rattle.fields.specs.Layout.{out_of_order, element, elements, inside_from, inside, past}
+use Rattle.fields.specs.Layout.{out_of_order, element, elements, inside_from, inside, past, sized}
 use Rattle.fields.specs.Claims.{Each}
 use Rattle.fields.specs.Extensions.{Extension, Fits, extension_bytes, list_bytes, Ascending, Asked, Extended, OutOfOrder, FineIsExtended, OneList, FifteenIsOutOfOrder}
-use Rattle.fields.proofs.Answers.{wrong_fine, same_wrong}
+use Rattle.fields.specs.Checked.{Checked, good, bad}
+use Rattle.octets.specs.Answer.{refused}
+use Rattle.fields.proofs.Answers.{bad_good, same_place, same_number}
 use Rattle.fields.proofs.Elements.{inside_none, inside_bad, inside_more}
 use Rattle.fields.proofs.Vectors.{bytes_take, bytes_drop, length_there, body_there}
 
@@ -55,7 +54,7 @@ module _ (x : Extension) (rest : List ℕ) where
   rest_there = drop_at (extension_bytes x) rest (4 + l) bytes_length
 
   -- an extension that is whole is out of order, or is passed
-  pub element_first : (o : Order) (last : ℕ) → Fits x → element (ExtensionList o) last (extension_bytes x ++ rest) ≡ cond (out_of_order o last t) (Not 15) (Size (4 + l) (t + 1))
+  pub element_first : (o : Order) (last : ℕ) → Fits x → element (ExtensionList o) last (extension_bytes x ++ rest) ≡ cond (out_of_order o last t) (refused 15) (sized (4 + l) (t + 1))
   unfolding element
   element_first o last f =
       let z : length (extension_bytes x ++ rest) ≡ 4 + l + length rest = length-append (extension_bytes x) rest ∙ omega (arith, bytes_length) in
@@ -100,7 +99,7 @@ there r b h g =
     }
 
 data Seen (o : Order) (last : ℕ) (r : List ℕ) : Type 0 where
-  cut : element (ExtensionList o) last r ≡ Not 2 → Seen o last r
+  cut : element (ExtensionList o) last r ≡ refused 2 → Seen o last r
   whole : There r → Seen o last r
 
 seen : (o : Order) (last : ℕ) (r : List ℕ) → Bytes r → Seen o last r
@@ -140,7 +139,7 @@ go_on o last (x ∷ xs) rest at f h =
     let n = 4 + length x.extension_data in
     let t = x.extension_type + 1 in
     let m = list_bytes xs ++ rest in
-    let e : element (ExtensionList o) last (extension_bytes x ++ m) ≡ Size n t = element_first x m o last f.0 ∙ rw h.0 in
+    let e : element (ExtensionList o) last (extension_bytes x ++ m) ≡ sized n t = element_first x m o last f.0 ∙ rw h.0 in
     ap (λ (a : List ℕ). inside_from (ExtensionList o) last a at) (list_more x xs rest)
     ∙ inside_more (ExtensionList o) last (extension_bytes x ++ m) at n t (some_there x m) e
     ∙ ap (λ (a : List ℕ). inside_from (ExtensionList o) t a (at + n)) (rest_there x m)
@@ -148,12 +147,12 @@ go_on o last (x ∷ xs) rest at f h =
     ∙ ap (inside_from (ExtensionList o) (after t xs) rest) (omega (arith, list_length x xs))
 
 -- how the bytes after an element that said `last` end: all are extensions in order, one is cut short, or one is out of order
-data Ended (o : Order) (last : ℕ) (r : List ℕ) (at : ℕ) : Inside → Type 0 where
-  all : (xs : List Extension) → Each Fits xs → From o last xs → r ≡ list_bytes xs → Ended o last r at Fine
-  cut_at : (p : ℕ) → Ended o last r at (Wrong 2 p)
+data Ended (o : Order) (last : ℕ) (r : List ℕ) (at : ℕ) : Checked Unit → Type 0 where
+  all : (xs : List Extension) → Each Fits xs → From o last xs → r ≡ list_bytes xs → Ended o last r at (good tt)
+  cut_at : (p : ℕ) → Ended o last r at (bad 2 p)
   out_at :
       (p : ℕ) (xs : List Extension) (it : Extension) (rest : List ℕ) → Each Fits xs → Fits it → From o last xs → r ≡ list_bytes xs ++ (extension_bytes it ++ rest)
-      → out_of_order o (after last xs) it.extension_type ≡ true → p ≡ at + length (list_bytes xs) → Ended o last r at (Wrong 15 p)
+      → out_of_order o (after last xs) it.extension_type ≡ true → p ≡ at + length (list_bytes xs) → Ended o last r at (bad 15 p)
 
 nothing : (r : List ℕ) → length r ≡ 0 → r ≡ []
 nothing [] h = refl
@@ -161,7 +160,7 @@ nothing (x ∷ r) h = absurd (omega arith)
 
 -- one extension more in front
 more_in_front :
-    (o : Order) (last : ℕ) (r : List ℕ) (at : ℕ) (x : Extension) (rest : List ℕ) → Fits x → r ≡ extension_bytes x ++ rest → out_of_order o last x.extension_type ≡ false → (a : Inside)
+    (o : Order) (last : ℕ) (r : List ℕ) (at : ℕ) (x : Extension) (rest : List ℕ) → Fits x → r ≡ extension_bytes x ++ rest → out_of_order o last x.extension_type ≡ false → (a : Checked Unit)
     → Ended o (x.extension_type + 1) rest (at + (4 + length x.extension_data)) a → Ended o last r at a
 unfolding joined
 more_in_front o last r at x rest f e h a (all xs fs hs es) = all (x ∷ xs) (f, fs) (h, hs) (e ∙ ap (λ (b : List ℕ). extension_bytes x ++ b) es)
@@ -177,12 +176,12 @@ unfolding elements joined
 ended zero o last r at b h = all [] tt tt (nothing r (omega arith))
 ended (suc n) o last r at b h = go (eqb (length r) 0) refl (seen o last r b) (λ m t. ended n o t (drop m r) (at + m) (bytes_drop m b))
   where
-    go : (q : Bool) → eqb (length r) 0 ≡ q → Seen o last r → ((m t : ℕ) → length (drop m r) ≤ n → Ended o t (drop m r) (at + m) (elements n (ExtensionList o) t (drop m r) (at + m))) → Ended o last r at (cond q Fine (past (element (ExtensionList o) last r) at (λ m t. elements n (ExtensionList o) t (drop m r) (at + m))))
+    go : (q : Bool) → eqb (length r) 0 ≡ q → Seen o last r → ((m t : ℕ) → length (drop m r) ≤ n → Ended o t (drop m r) (at + m) (elements n (ExtensionList o) t (drop m r) (at + m))) → Ended o last r at (cond q (good tt) (past (element (ExtensionList o) last r) at (λ m t. elements n (ExtensionList o) t (drop m r) (at + m))))
     go true hq v less = all [] tt tt (nothing r (eqb-true _ _ hq))
     go false hq (cut e) less = rw e (cut_at at)
     go false hq (whole w) less = judge (out_of_order o last w.it.extension_type) refl
       where
-        first : element (ExtensionList o) last r ≡ cond (out_of_order o last w.it.extension_type) (Not 15) (Size (4 + length w.it.extension_data) (w.it.extension_type + 1))
+        first : element (ExtensionList o) last r ≡ cond (out_of_order o last w.it.extension_type) (refused 15) (sized (4 + length w.it.extension_data) (w.it.extension_type + 1))
         first = ap (element (ExtensionList o) last) w.is ∙ element_first w.it w.rest o last w.fits
 
         judge : (d : Bool) → out_of_order o last w.it.extension_type ≡ d → Ended o last r at (past (element (ExtensionList o) last r) at (λ m t. elements n (ExtensionList o) t (drop m r) (at + m)))
@@ -259,7 +258,7 @@ list_last [] x rest = ap (λ (a : List ℕ). a ++ rest) (append-nil (extension_b
 list_last (y ∷ xs) x rest =
     list_more y (xs ++ (x ∷ [])) rest ∙ ap (λ (a : List ℕ). extension_bytes y ++ a) (list_last xs x rest) ∙ sym (list_more y xs (extension_bytes x ++ rest))
 
-fine_from : (o : Order) (xs : List Extension) (at : ℕ) → Each Fits xs → From o 0 xs → (b : List ℕ) → b ≡ list_bytes xs → inside (ExtensionList o) b at ≡ Fine
+fine_from : (o : Order) (xs : List Extension) (at : ℕ) → Each Fits xs → From o 0 xs → (b : List ℕ) → b ≡ list_bytes xs → inside (ExtensionList o) b at ≡ good tt
 unfolding inside
 fine_from o xs at f h b e =
     ap (λ (a : List ℕ). inside_from (ExtensionList o) 0 a at) (e ∙ sym (append-nil (list_bytes xs))) ∙ go_on o 0 xs [] at f h
@@ -269,19 +268,19 @@ fine_from o xs at f h b e =
 pub fine_is_extended : FineIsExtended
 fine_is_extended o b at bs = (λ e. go (inside (ExtensionList o) b at) e (inside_ended o b at bs), back)
   where
-    go : (a : Inside) → a ≡ Fine → Ended o 0 b at a → Extended o b
+    go : (a : Checked Unit) → a ≡ good tt → Ended o 0 b at a → Extended o b
     go a e (all xs f h is) = record { list = xs; fit = f; bytes = is; asked = from_asked o xs h }
-    go a e (cut_at p) = wrong_fine 2 p e
-    go a e (out_at p xs it rest f g h is w pl) = wrong_fine 15 p e
+    go a e (cut_at p) = bad_good 2 p tt e
+    go a e (out_at p xs it rest f g h is w pl) = bad_good 15 p tt e
 
-    back : Extended o b → inside (ExtensionList o) b at ≡ Fine
+    back : Extended o b → inside (ExtensionList o) b at ≡ good tt
     back x = fine_from o x.list at x.fit (asked_from o x.list x.asked) b x.bytes
 
 -- 15 stands exactly where the first extension starts that is not above all before it
-out_from : (xs : List Extension) (it : Extension) (rest : List ℕ) (at : ℕ) → Each Fits xs → Fits it → From Ordered 0 xs → out_of_order Ordered (after 0 xs) it.extension_type ≡ true → (b : List ℕ) → b ≡ list_bytes xs ++ (extension_bytes it ++ rest) → inside (ExtensionList Ordered) b at ≡ Wrong 15 (at + length (list_bytes xs))
+out_from : (xs : List Extension) (it : Extension) (rest : List ℕ) (at : ℕ) → Each Fits xs → Fits it → From Ordered 0 xs → out_of_order Ordered (after 0 xs) it.extension_type ≡ true → (b : List ℕ) → b ≡ list_bytes xs ++ (extension_bytes it ++ rest) → inside (ExtensionList Ordered) b at ≡ bad 15 (at + length (list_bytes xs))
 unfolding inside
 out_from xs it rest at f g h w b e =
-    let n : element (ExtensionList Ordered) (after 0 xs) (extension_bytes it ++ rest) ≡ Not 15 = element_first it rest Ordered (after 0 xs) g ∙ rw w in
+    let n : element (ExtensionList Ordered) (after 0 xs) (extension_bytes it ++ rest) ≡ refused 15 = element_first it rest Ordered (after 0 xs) g ∙ rw w in
     ap (λ (a : List ℕ). inside_from (ExtensionList Ordered) 0 a at) e ∙ go_on Ordered 0 xs (extension_bytes it ++ rest) at f h
     ∙ inside_bad (ExtensionList Ordered) (after 0 xs) (extension_bytes it ++ rest) (at + length (list_bytes xs)) 15 (some_there it rest) n
 
@@ -292,9 +291,9 @@ true_false false h g = absurd (let z : ◌≡◌ {A = ℕ} 1 0 = ap (λ (c : Boo
 pub fifteen_is_out_of_order : FifteenIsOutOfOrder
 fifteen_is_out_of_order b at place bs = (λ e. go (inside (ExtensionList Ordered) b at) e (inside_ended Ordered b at bs), back)
   where
-    go : (a : Inside) → a ≡ Wrong 15 place → Ended Ordered 0 b at a → OutOfOrder b at place
-    go a e (all xs f h is) = wrong_fine 15 place (sym e)
-    go a e (cut_at p) = absurd (omega (arith, (same_wrong 2 15 p place e).0))
+    go : (a : Checked Unit) → a ≡ bad 15 place → Ended Ordered 0 b at a → OutOfOrder b at place
+    go a e (all xs f h is) = bad_good 15 place tt (sym e)
+    go a e (cut_at p) = absurd (omega (arith, same_number 2 15 p place e))
     go a e (out_at p xs it rest f g h is w pl) =
         record {
           before = xs;
@@ -304,10 +303,10 @@ fifteen_is_out_of_order b at place bs = (λ e. go (inside (ExtensionList Ordered
           bytes = is ∙ sym (list_last xs it rest);
           ascending = (from_ascending 0 xs h).1;
           unsorted = λ q. true_false _ w (from_last Ordered 0 xs it (asked_from Ordered (xs ++ (it ∷ [])) q));
-          starts = sym (same_wrong 15 15 p place e).1 ∙ pl;
+          starts = same_place 15 15 p place e ∙ pl;
         }
 
-    back : OutOfOrder b at place → inside (ExtensionList Ordered) b at ≡ Wrong 15 place
+    back : OutOfOrder b at place → inside (ExtensionList Ordered) b at ≡ bad 15 place
     back x = judge (out_of_order Ordered (after 0 xs) x.it.extension_type) refl
       where
         xs : List Extension
@@ -319,9 +318,9 @@ fifteen_is_out_of_order b at place bs = (λ e. go (inside (ExtensionList Ordered
         f : Each Fits xs × Each Fits (x.it ∷ [])
         f = each_parts Fits xs (x.it ∷ []) x.fit
 
-        judge : (d : Bool) → out_of_order Ordered (after 0 xs) x.it.extension_type ≡ d → inside (ExtensionList Ordered) b at ≡ Wrong 15 place
+        judge : (d : Bool) → out_of_order Ordered (after 0 xs) x.it.extension_type ≡ d → inside (ExtensionList Ordered) b at ≡ bad 15 place
         judge false w = absurd (x.unsorted (from_asked Ordered (xs ++ (x.it ∷ [])) (last_from Ordered 0 xs x.it h w)))
-        judge true w = out_from xs x.it x.rest at f.0 f.1.0 h w b (x.bytes ∙ list_last xs x.it x.rest) ∙ ap (Wrong 15) (sym x.starts)
+        judge true w = out_from xs x.it x.rest at f.0 f.1.0 h w b (x.bytes ∙ list_last xs x.it x.rest) ∙ ap (bad 15) (sym x.starts)
 
 -- the extensions of some bytes are of one list alone
 same_extension : (x y : Extension) (a b : List ℕ) → Fits x → Fits y → extension_bytes x ++ a ≡ extension_bytes y ++ b → (x ≡ y) × (a ≡ b)

@@ -10,9 +10,7 @@ use borrow.Author.Tests.{ltb-false, eqb-true}
 use Rattle.fields.specs.declared.layout.Inner.{Inner}
 use Rattle.fields.specs.declared.layout.Field.{Field}
 use Rattle.fields.specs.declared.layout.Field.TheVariants.{Uint, Vector, OneOf, Fixed}
-use Rattle.fields.specs.declared.layout.Inside.{Inside}
-use Rattle.fields.specs.declared.layout.Inside.TheVariants.{Fine, Wrong}
-use Rattle.fields.specs.Checked.{good, bad, moved}
+use Rattle.fields.specs.Checked.{good, bad, moved, Checked}
 use Rattle.octets.specs.Numbers.{width_of, be}
 use Rattle.fields.specs.Layout.{inside, allowed}
 use Rattle.fields.specs.Write.{Value, number_in, bytes_in, wrap, body_size, wholes, fine, vector_bytes, vector_filled, one_of_filled, fixed_filled, fill, laid}
@@ -26,7 +24,7 @@ pub record FilledVector (w least most : ℕ) (i : Inner) (v : List ℕ) (at : �
   pub low : least ≤ body_size i (length v)
   pub high : body_size i (length v) ≤ most
   pub round : wholes i (length v) ≡ true
-  pub fine : inside i (wrap i v) (at + w) ≡ Fine
+  pub fine : inside i (wrap i v) (at + w) ≡ good tt
   pub is : b ≡ be w (length (wrap i v)) ++ wrap i v
   pub size : length b ≡ w + body_size i (length v)
 
@@ -38,12 +36,12 @@ filled_vector w least most i v at b e =
     n : ℕ
     n = body_size i (length v)
 
-    go : (p q r : Bool) (x : Inside) → ltb n least ≡ p → ltb most n ≡ q → wholes i (length v) ≡ r → inside i (wrap i v) (at + w) ≡ x → cond p (bad 5 at) (cond q (bad 5 at) (cond r (fine x (be w (length (wrap i v)) ++ wrap i v)) (bad 10 at))) ≡ good b → FilledVector w least most i v at b
+    go : (p q r : Bool) (x : Checked Unit) → ltb n least ≡ p → ltb most n ≡ q → wholes i (length v) ≡ r → inside i (wrap i v) (at + w) ≡ x → cond p (bad 5 at) (cond q (bad 5 at) (cond r (fine x (be w (length (wrap i v)) ++ wrap i v)) (bad 10 at))) ≡ good b → FilledVector w least most i v at b
     go true q r x hp hq hr hx e = bad_good 5 at b e
     go false true r x hp hq hr hx e = bad_good 5 at b e
     go false false false x hp hq hr hx e = bad_good 10 at b e
-    go false false true (Wrong y z) hp hq hr hx e = bad_good y z b e
-    go false false true Fine hp hq hr hx e =
+    go false false true (bad y z) hp hq hr hx e = bad_good y z b e
+    go false false true (good u) hp hq hr hx e =
         let o = value i v hr in
         let s : be w (length (wrap i v)) ++ wrap i v ≡ b = same_good _ b e in
         record {
@@ -64,12 +62,12 @@ refused_vector w least most i v x y e =
     n : ℕ
     n = body_size i (length v)
 
-    go : (p q r : Bool) (z : Inside) → ltb most n ≡ q → wholes i (length v) ≡ r → inside i (wrap i v) (0 + w) ≡ z → cond p (bad 5 0) (cond q (bad 5 0) (cond r (fine z (vector_bytes w i v)) (bad 10 0))) ≡ bad x y → y ≤ w + most
+    go : (p q r : Bool) (z : Checked Unit) → ltb most n ≡ q → wholes i (length v) ≡ r → inside i (wrap i v) (0 + w) ≡ z → cond p (bad 5 0) (cond q (bad 5 0) (cond r (fine z (vector_bytes w i v)) (bad 10 0))) ≡ bad x y → y ≤ w + most
     go true q r z hq hr hz e = omega (arith, same_place 5 x 0 y e)
     go false true r z hq hr hz e = omega (arith, same_place 5 x 0 y e)
     go false false false z hq hr hz e = omega (arith, same_place 10 x 0 y e)
-    go false false true Fine hq hr hz e = good_bad x y _ e
-    go false false true (Wrong u k) hq hr hz e =
+    go false false true (good u) hq hr hz e = good_bad x y _ e
+    go false false true (bad u k) hq hr hz e =
         omega (arith, same_place u x k y e, (inside_place i (wrap i v) (0 + w) u k hz).1, (value i v hr).size, ltb-false most n hq)
 
 -- a value that is taken as it is or not at all
@@ -128,9 +126,9 @@ fill_laid (OneOf w least m) v at b e = (filled_one_of (width_of w) least m (numb
 fill_laid (Fixed n) v at b e = (filled_fixed n (bytes_in v) at b e).1
 
 -- a field at a place is the field at the start, its refusal moved there
-shifted_fine : (x : Inside) (at : ℕ) (b : List ℕ) → fine (shift at x) b ≡ moved at (fine x b)
-shifted_fine Fine at b = refl
-shifted_fine (Wrong x p) at b = refl
+shifted_fine : (x : Checked Unit) (at : ℕ) (b : List ℕ) → fine (shift at x) b ≡ moved at (fine x b)
+shifted_fine (good u) at b = refl
+shifted_fine (bad x p) at b = refl
 
 taken_moved : (c : Bool) (b : List ℕ) (x at : ℕ) → cond c (good b) (bad x at) ≡ moved at (cond c (good b) (bad x 0))
 taken_moved true b x at = refl
@@ -150,8 +148,8 @@ fill_moved (Vector w least m i) x at =
     ap (inside i (wrap i v)) j ∙ inside_shift i (wrap i v) (at + (0 + n)) ∙ shift_add at (0 + n) (inside i (wrap i v) 0) ∙ ap (shift at) (sym (inside_shift i (wrap i v) (0 + n))) in
     go (ltb (body_size i (length v)) least) (ltb m (body_size i (length v))) (wholes i (length v)) (inside i (wrap i v) (at + n)) (inside i (wrap i v) (0 + n)) (vector_bytes n i v) s a
   where
-    go : (p q r : Bool) (y z : Inside) (b : List ℕ) → y ≡ shift at z → at ≡ at + 0 → cond p (bad 5 at) (cond q (bad 5 at) (cond r (fine y b) (bad 10 at))) ≡ moved at (cond p (bad 5 0) (cond q (bad 5 0) (cond r (fine z b) (bad 10 0))))
+    go : (p q r : Bool) (y z : Checked Unit) (b : List ℕ) → y ≡ shift at z → at ≡ at + 0 → cond p (bad 5 at) (cond q (bad 5 at) (cond r (fine y b) (bad 10 at))) ≡ moved at (cond p (bad 5 0) (cond q (bad 5 0) (cond r (fine z b) (bad 10 0))))
     go true q r y z b e a = ap (bad 5) a
     go false true r y z b e a = ap (bad 5) a
     go false false false y z b e a = ap (bad 10) a
-    go false false true y z b e a = ap (λ (x : Inside). fine x b) e ∙ shifted_fine z at b
+    go false false true y z b e a = ap (λ (x : Checked Unit). fine x b) e ∙ shifted_fine z at b

@@ -10,9 +10,7 @@ use lib.Seq.{take_at, drop_at, drop-drop, length-take-le}
 use borrow.Author.Tests.{le-ltb, ltb-false}
 use Rattle.fields.specs.declared.layout.Part.{Part}
 use Rattle.fields.specs.declared.layout.Inner.TheVariants.{NodeList}
-use Rattle.fields.specs.declared.layout.Inside.{Inside}
-use Rattle.fields.specs.declared.layout.Inside.TheVariants.{Fine, Wrong}
-use Rattle.fields.specs.Checked.{good, bad}
+use Rattle.fields.specs.Checked.{good, bad, Checked}
 use Rattle.octets.specs.Numbers.{be}
 use Rattle.fields.specs.Layout.{inside, bytes_at}
 use Rattle.fields.specs.Write.{prefixed, stripped, unwrap, fine}
@@ -64,19 +62,19 @@ parted_is (suc k) w h =
 -- a part that is copied
 pub record WasCopied (s : List ℕ) (p : Part) (w : List ℕ) : Type 0 where
   pub within : p.start + p.len ≤ length s
-  pub fine : inside NodeList (bytes_at s p) p.start ≡ Fine
+  pub fine : inside NodeList (bytes_at s p) p.start ≡ good tt
   pub is : w ≡ unwrap NodeList (bytes_at s p)
 
 pub was_copied : (s : List ℕ) (p : Part) (w : List ℕ) → path_at s p ≡ good w → WasCopied s p w
 unfolding path_at
 was_copied s p w e = go (ltb (length s) (p.start + p.len)) (inside NodeList (bytes_at s p) p.start) refl refl e
   where
-    go : (b : Bool) (x : Inside) → ltb (length s) (p.start + p.len) ≡ b → inside NodeList (bytes_at s p) p.start ≡ x → cond b (bad 2 p.start) (fine x (unwrap NodeList (bytes_at s p))) ≡ good w → WasCopied s p w
+    go : (b : Bool) (x : Checked Unit) → ltb (length s) (p.start + p.len) ≡ b → inside NodeList (bytes_at s p) p.start ≡ x → cond b (bad 2 p.start) (fine x (unwrap NodeList (bytes_at s p))) ≡ good w → WasCopied s p w
     go true x hb hx e = bad_good 2 p.start w e
-    go false (Wrong y z) hb hx e = bad_good y z w e
-    go false Fine hb hx e = record { within = ltb-false _ _ hb; fine = hx; is = sym (same_good _ w e) }
+    go false (bad y z) hb hx e = bad_good y z w e
+    go false (good u) hb hx e = record { within = ltb-false _ _ hb; fine = hx; is = sym (same_good _ w e) }
 
-pub copied_is : (s : List ℕ) (p : Part) → p.start + p.len ≤ length s → inside NodeList (bytes_at s p) p.start ≡ Fine → path_at s p ≡ good (unwrap NodeList (bytes_at s p))
+pub copied_is : (s : List ℕ) (p : Part) → p.start + p.len ≤ length s → inside NodeList (bytes_at s p) p.start ≡ good tt → path_at s p ≡ good (unwrap NodeList (bytes_at s p))
 unfolding path_at
 copied_is s p h e = rw (le-ltb _ _ h, e)
 
@@ -108,7 +106,7 @@ unfolding unwrap
 joined_is_copied s p hs h o e =
     let b : bytes_at s p ≡ prefixed (length hs) (joined hs) = e ∙ encoded_prefixed hs o in
     let l = joined_length hs o in
-    let f : inside NodeList (bytes_at s p) p.start ≡ Fine = ap (λ (x : List ℕ). inside NodeList x p.start) b ∙ nodes_fine (length hs) (joined hs) p.start l in
+    let f : inside NodeList (bytes_at s p) p.start ≡ good tt = ap (λ (x : List ℕ). inside NodeList x p.start) b ∙ nodes_fine (length hs) (joined hs) p.start l in
     let t = strip (length hs) (joined hs) l in
     let n : length (bytes_at s p) / 33 ≡ length hs = omega (arith, ap length b, t.1) in
     copied_is s p h f ∙ ap good (ap₂ stripped n b ∙ t.0)

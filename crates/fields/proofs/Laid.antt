@@ -15,8 +15,6 @@ use Rattle.fields.specs.declared.layout.Part.{Part}
 use Rattle.fields.specs.declared.layout.Inner.TheVariants.{Opaque}
 use Rattle.fields.specs.declared.layout.Field.{Field}
 use Rattle.fields.specs.declared.layout.Field.TheVariants.{Uint, Vector, OneOf, Fixed}
-use Rattle.fields.specs.declared.layout.FieldRead.{FieldRead}
-use Rattle.fields.specs.declared.layout.FieldRead.TheVariants.{Found, Bad}
 use Rattle.fields.specs.Checked.{Checked, good, bad, then}
 use Rattle.fields.specs.Layout.{inside, allowed, number_at, one_of_at, field, next, push, read}
 use Rattle.fields.specs.Write.{vector_bytes, vector_filled, body_size, wholes, wrap, fine, fill, laid, Filled, join, write}
@@ -79,13 +77,13 @@ pub record IsNumber (w : ℕ) (s : List ℕ) (at : ℕ) (p : Part) : Type 0 wher
   pub is : p.value ≡ unbe (take w (drop at s))
   pub below : Bytes s → p.value < 256 ^ w
 
-pub is_number : (w : ℕ) (s : List ℕ) (at : ℕ) (p : Part) → number_at w (drop at s) at ≡ Found p → IsNumber w s at p
+pub is_number : (w : ℕ) (s : List ℕ) (at : ℕ) (p : Part) → number_at w (drop at s) at ≡ good p → IsNumber w s at p
 is_number w s at p e =
     let h = found_number w (drop at s) at p e in
     let l : length (take w (drop at s)) ≡ w = length-take-le w (drop at s) h.1 in
     rw h.0 (record { end = refl; is = refl; below = λ bs. rw l at (unbe_below (bytes_take w (bytes_drop at bs))) })
 
-pub one_of_number : (w least most : ℕ) (s : List ℕ) (at : ℕ) (p : Part) → one_of_at w least most (drop at s) at ≡ Found p → IsNumber w s at p × (allowed least most p.value ≡ true)
+pub one_of_number : (w least most : ℕ) (s : List ℕ) (at : ℕ) (p : Part) → one_of_at w least most (drop at s) at ≡ good p → IsNumber w s at p × (allowed least most p.value ≡ true)
 one_of_number w least most s at p e = let h = found_one_of w least most (drop at s) at p e in (is_number w s at p h.0, h.1)
 
 -- what is allowed lies in the row
@@ -98,20 +96,20 @@ allowed_within least most n h = go (leb least n) (leb n most) refl refl h
     go false b ha hb h = absurd (let z : false ≡ true = h in let o : ◌≡◌ {A = ℕ} 0 1 = cc in omega arith)
 
 -- a layout that was read: its first field, and the rest from where that ends
-pub read_head : (f : Field) (fs : List Field) (s : List ℕ) (at : ℕ) (p : Part) (ps : List Part) → read (f ∷ fs) s at ≡ good (p ∷ ps) → (field f (drop at s) at ≡ Found p) × (read fs s (p.start + p.len) ≡ good ps)
+pub read_head : (f : Field) (fs : List Field) (s : List ℕ) (at : ℕ) (p : Part) (ps : List Part) → read (f ∷ fs) s at ≡ good (p ∷ ps) → (field f (drop at s) at ≡ good p) × (read fs s (p.start + p.len) ≡ good ps)
 unfolding read
 read_head f fs s at p ps e = go (field f (drop at s) at) refl e
   where
-    go : (x : FieldRead) → field f (drop at s) at ≡ x → next x (λ q. push q (read fs s (q.start + q.len))) ≡ good (p ∷ ps) → (x ≡ Found p) × (read fs s (p.start + p.len) ≡ good ps)
-    go (Bad x y) h e = bad_good x y _ e
-    go (Found q) h e = more (read fs s (q.start + q.len)) refl e
+    go : (x : Checked Part) → field f (drop at s) at ≡ x → next x (λ q. push q (read fs s (q.start + q.len))) ≡ good (p ∷ ps) → (x ≡ good p) × (read fs s (p.start + p.len) ≡ good ps)
+    go (bad x y) h e = bad_good x y _ e
+    go (good q) h e = more (read fs s (q.start + q.len)) refl e
       where
-        more : (a : Checked (List Part)) → read fs s (q.start + q.len) ≡ a → push q a ≡ good (p ∷ ps) → (Found q ≡ Found p) × (read fs s (p.start + p.len) ≡ good ps)
+        more : (a : Checked (List Part)) → read fs s (q.start + q.len) ≡ a → push q a ≡ good (p ∷ ps) → (good q ≡ good p) × (read fs s (p.start + p.len) ≡ good ps)
         more (bad x y) ha e = bad_good x y _ e
         more (good qs) ha e =
             let z : q ≡ p = cc in
             let y : qs ≡ ps = cc in
-            (ap Found z, ap (λ (k : Part). read fs s (k.start + k.len)) (sym z) ∙ ha ∙ ap good y)
+            (ap good z, ap (λ (k : Part). read fs s (k.start + k.len)) (sym z) ∙ ha ∙ ap good y)
 
 -- the number of each field that was read, of those that are numbers
 abbrev pub Numeric : List ℕ → Field → Part → Type 0
@@ -120,7 +118,7 @@ Numeric s (OneOf w least most) p = (p.value < 256 ^ width_of w) × (least ≤ p.
 Numeric s (Fixed n) p = Unit
 Numeric s (Vector w least most i) p = Unit
 
-pub found_numeric : (s : List ℕ) → Bytes s → (f : Field) (at : ℕ) (p : Part) → at ≤ length s → field f (drop at s) at ≡ Found p → Numeric s f p
+pub found_numeric : (s : List ℕ) → Bytes s → (f : Field) (at : ℕ) (p : Part) → at ≤ length s → field f (drop at s) at ≡ good p → Numeric s f p
 found_numeric s bs (Uint w) at p h e = (is_number (width_of w) s at p e).below bs
 found_numeric s bs (OneOf w least most) at p h e =
     let n = one_of_number (width_of w) least most s at p e in
@@ -130,11 +128,11 @@ found_numeric s bs (Fixed n) at p h e = tt
 found_numeric s bs (Vector w least most i) at p h e = tt
 
 -- and one that is refused: at its first field, or behind it
-pub read_stops : (f : Field) (fs : List Field) (s : List ℕ) (at x y : ℕ) → field f (drop at s) at ≡ Bad x y → read (f ∷ fs) s at ≡ bad x y
+pub read_stops : (f : Field) (fs : List Field) (s : List ℕ) (at x y : ℕ) → field f (drop at s) at ≡ bad x y → read (f ∷ fs) s at ≡ bad x y
 unfolding read
 read_stops f fs s at x y e = rw e
 
-pub read_goes : (f : Field) (fs : List Field) (s : List ℕ) (at x y : ℕ) (p : Part) → field f (drop at s) at ≡ Found p → read fs s (p.start + p.len) ≡ bad x y → read (f ∷ fs) s at ≡ bad x y
+pub read_goes : (f : Field) (fs : List Field) (s : List ℕ) (at x y : ℕ) (p : Part) → field f (drop at s) at ≡ good p → read fs s (p.start + p.len) ≡ bad x y → read (f ∷ fs) s at ≡ bad x y
 unfolding read
 read_goes f fs s at x y p e h = rw (e, h)
 
@@ -147,7 +145,7 @@ unfolding write
 write_goes f fs at x y b e h = rw (e, h)
 
 -- where a field that was found lies
-found_lies : (f : Field) (r : List ℕ) (at : ℕ) (p : Part) → field f r at ≡ Found p → (p.start ≡ at + lead f) × LongAs f p
+found_lies : (f : Field) (r : List ℕ) (at : ℕ) (p : Part) → field f r at ≡ good p → (p.start ≡ at + lead f) × LongAs f p
 found_lies (Uint w) r at p e = let h = (found_number (width_of w) r at p e).0 in rw h (omega arith, refl)
 found_lies (Vector w least most i) r at p e = let h = (found_vector (width_of w) least most i r at p e).is in rw h (refl, refl)
 found_lies (OneOf w least most) r at p e = let h = (found_number (width_of w) r at p (found_one_of (width_of w) least most r at p e).0).0 in rw h (omega arith, refl)
@@ -162,9 +160,9 @@ read_in_a_row [] s at ps l e = go (ltb at (length s)) refl e
     go false h e = subst (λ (q : List Part). InARow [] q at (length s)) (same_good [] ps e) (omega (arith, ltb-false at (length s) h))
 read_in_a_row (f ∷ fs) s at ps l e = go (field f (drop at s) at) refl e (λ p. read_in_a_row fs s (p.start + p.len))
   where
-    go : (x : FieldRead) → field f (drop at s) at ≡ x → next x (λ p. push p (read fs s (p.start + p.len))) ≡ good ps → ((p : Part) (qs : List Part) → p.start + p.len ≤ length s → read fs s (p.start + p.len) ≡ good qs → InARow fs qs (p.start + p.len) (length s)) → InARow (f ∷ fs) ps at (length s)
-    go (Bad x y) h e less = bad_good x y ps e
-    go (Found p) h e less = more (read fs s (p.start + p.len)) refl e
+    go : (x : Checked Part) → field f (drop at s) at ≡ x → next x (λ p. push p (read fs s (p.start + p.len))) ≡ good ps → ((p : Part) (qs : List Part) → p.start + p.len ≤ length s → read fs s (p.start + p.len) ≡ good qs → InARow fs qs (p.start + p.len) (length s)) → InARow (f ∷ fs) ps at (length s)
+    go (bad x y) h e less = bad_good x y ps e
+    go (good p) h e less = more (read fs s (p.start + p.len)) refl e
       where
         more : (a : Checked (List Part)) → read fs s (p.start + p.len) ≡ a → push p a ≡ good ps → InARow (f ∷ fs) ps at (length s)
         more (bad x y) ha e = bad_good x y ps e
@@ -174,7 +172,7 @@ read_in_a_row (f ∷ fs) s at ps l e = go (field f (drop at s) at) refl e (λ p.
             subst (λ (q : List Part). InARow (f ∷ fs) q at (length s)) (same_good (p ∷ qs) ps e) (k.0, k.1, less p qs w ha)
 
 -- the first bad field decides
-upto_stops : (fs gs : List Field) (f : Field) (s : List ℕ) (at end x y : ℕ) → Upto s fs at end → field f (drop end s) end ≡ Bad x y → read (fs ++ (f ∷ gs)) s at ≡ bad x y
+upto_stops : (fs gs : List Field) (f : Field) (s : List ℕ) (at end x y : ℕ) → Upto s fs at end → field f (drop end s) end ≡ bad x y → read (fs ++ (f ∷ gs)) s at ≡ bad x y
 upto_stops [] gs f s at end x y here e = read_stops f gs s at x y e
 upto_stops (g ∷ fs) gs f s at end x y (past p h u) e = read_goes g (fs ++ (f ∷ gs)) s at x y p h (upto_stops fs gs f s (p.start + p.len) end x y u e)
 

@@ -5,23 +5,27 @@ use mathlib.Core.Bool.{Bool, true, false, cond}
 use Prim.Native.Nat.{ℕ, zero, suc, ◌+◌, ◌≤◌, ◌<◌}
 use native.Mathlib.Omega.{arith}
 use native.Mathlib.Nat.{zero-add}
-use lib.ListN.{length, get_or, take, drop, length-append}
+use lib.ListN.{length, get_or, get_or-map, take, drop, length-append}
 use lib.Dec.{ltb}
 use lib.Seq.{get_or-take, get_or-drop, length-take-le}
 use borrow.Author.Tests.{lt-ltb, le-ltb, ltb-true}
+use Rattle.std.specs.Borrow.{Bor}
 use Rattle.octets.specs.Bytes.{put}
 use Rattle.octets.specs.declared.number.Width.TheVariants.{One}
 use Rattle.fields.specs.declared.layout.Field.{Field}
 use Rattle.fields.specs.declared.layout.Field.TheVariants.{Uint}
-use Rattle.fields.specs.declared.writing.Fill.TheVariants.{Takes, Not}
 use Rattle.fields.specs.Checked.{Checked, good, bad, then, moved}
-use Rattle.fields.specs.Write.{Value, fill, Filled, join, write, held, filled_by}
+use Rattle.fields.specs.Write.{Value, fill, Filled, join, write, held, behind, filled_by}
 use Rattle.fields.specs.Effect.{longest, within, unwritten, wrote, effect}
 use Rattle.fields.specs.Inner.{ends, reached, written, Good}
 use Rattle.fields.specs.Claims.{layout}
 use Rattle.fields.proofs.Answers.{bad_good, good_bad, same_good, same_place}
 use Rattle.fields.proofs.Fills.{most, fill_short, fill_near, fill_moved}
-use Rattle.fields.proofs.Filling.{nothing, not_takes, takes_not, same_takes}
+use Rattle.fields.proofs.Filling.{nothing}
+
+-- reading one of some references is reading what is behind them
+pub behind_at : (vs : List (Bor (List ℕ))) (i : ℕ) → (get_or vs i (record { ref_ptr = (0, 0); now = [] })).now ≡ get_or (behind vs) i []
+behind_at vs i = sym (get_or-map (λ (v : Bor (List ℕ)). v.now) vs i (record { ref_ptr = (0, 0); now = [] }))
 
 pub filled_by_length : (fs : List Field) (ns : List ℕ) (vs : List (List ℕ)) → length (filled_by fs ns vs) ≡ length fs
 filled_by_length [] ns vs = refl
@@ -110,36 +114,36 @@ within_write fs h = go (write fs 0) refl
         rw (le-ltb _ _ k)
 
 -- what comes past the longest buffer
-pub reached_far : (fs : List Filled) (at : ℕ) → longest < at → reached (ends at (write fs at)) ≡ Not 9 0
+pub reached_far : (fs : List Filled) (at : ℕ) → longest < at → reached (ends at (write fs at)) ≡ bad 9 0
 reached_far fs at h = go (write fs at) refl
   where
-    go : (a : Checked (List ℕ)) → write fs at ≡ a → reached (ends at a) ≡ Not 9 0
+    go : (a : Checked (List ℕ)) → write fs at ≡ a → reached (ends at a) ≡ bad 9 0
     go (good b) e = let l : longest < at + length b = omega arith in rw (lt-ltb _ _ l)
     go (bad x y) e = let l : longest < y = omega (arith, (write_between fs at x y e).0) in rw (lt-ltb _ _ l)
 
-pub reached_not : (x y : ℕ) → y ≤ longest → reached (Not x y) ≡ Not x y
+pub reached_not : (x y : ℕ) → y ≤ longest → reached (bad x y) ≡ bad x y
 reached_not x y h = rw (le-ltb _ _ h)
 
-pub reached_past : (x y : ℕ) → longest < y → reached (Not x y) ≡ Not 9 0
+pub reached_past : (x y : ℕ) → longest < y → reached (bad x y) ≡ bad 9 0
 reached_past x y h = rw (lt-ltb _ _ h)
 
-pub reached_takes : (m : ℕ) → m ≤ longest → reached (Takes m) ≡ Takes m
+pub reached_takes : (m : ℕ) → m ≤ longest → reached (good m) ≡ good m
 reached_takes m h = rw (le-ltb _ _ h)
 
 -- what the first pass says of the whole
-pub measured_not : (a : Checked (List ℕ)) (out : List ℕ) (x y : ℕ) → length out ≤ longest → reached (ends 0 a) ≡ Not x y → effect out (within a) ≡ unwritten x y out
+pub measured_not : (a : Checked (List ℕ)) (out : List ℕ) (x y : ℕ) → length out ≤ longest → reached (ends 0 a) ≡ bad x y → effect out (within a) ≡ unwritten x y out
 measured_not (good b) out x y h e = go (ltb longest (0 + length b)) refl e
   where
-    go : (c : Bool) → ltb longest (0 + length b) ≡ c → cond c (Not 9 0) (Takes (0 + length b)) ≡ Not x y → effect out (good b) ≡ unwritten x y out
+    go : (c : Bool) → ltb longest (0 + length b) ≡ c → cond c (bad 9 0) (good (0 + length b)) ≡ bad x y → effect out (good b) ≡ unwritten x y out
     go true hc e =
         let l : length out < length b = omega (arith, ltb-true longest (0 + length b) hc) in
         let z : 9 ≡ x = cc in
         let w : 0 ≡ y = cc in
         rw (lt-ltb _ _ l, z, w)
-    go false hc e = takes_not x y (0 + length b) e
+    go false hc e = good_bad x y (0 + length b) e
 measured_not (bad u v) out x y h e = go (ltb longest v) e
   where
-    go : (c : Bool) → cond c (Not 9 0) (Not u v) ≡ Not x y → effect out (cond c (bad 9 0) (bad u v)) ≡ unwritten x y out
+    go : (c : Bool) → ◌≡◌ {A = Checked ℕ} (cond c (bad 9 0) (bad u v)) (bad x y) → effect out (cond c (bad 9 0) (bad u v)) ≡ unwritten x y out
     go true e = let z : 9 ≡ x = cc in let w : 0 ≡ y = cc in rw (z, w)
     go false e = let z : u ≡ x = cc in let w : v ≡ y = cc in rw (z, w)
 
@@ -148,20 +152,20 @@ pub record Measured (a : Checked (List ℕ)) (m : ℕ) : Type 0 where
   pub size : m ≡ length (written a)
   pub is : a ≡ good (written a)
 
-pub measured_takes : (a : Checked (List ℕ)) (m : ℕ) → reached (ends 0 a) ≡ Takes m → Measured a m
+pub measured_takes : (a : Checked (List ℕ)) (m : ℕ) → reached (ends 0 a) ≡ good m → Measured a m
 measured_takes (good b) m e = go (ltb longest (0 + length b)) e
   where
-    go : (c : Bool) → cond c (Not 9 0) (Takes (0 + length b)) ≡ Takes m → Measured (good b) m
-    go true e = not_takes 9 0 m e
-    go false e = record { fine = tt; size = omega (arith, same_takes (0 + length b) m e); is = refl }
+    go : (c : Bool) → cond c (bad 9 0) (good (0 + length b)) ≡ good m → Measured (good b) m
+    go true e = bad_good 9 0 m e
+    go false e = record { fine = tt; size = omega (arith, same_good (0 + length b) m e); is = refl }
 measured_takes (bad x y) m e = go (ltb longest y) e
   where
-    go : (c : Bool) → cond c (Not 9 0) (Not x y) ≡ Takes m → Measured (bad x y) m
-    go true e = not_takes 9 0 m e
-    go false e = not_takes x y m e
+    go : (c : Bool) → cond c (bad 9 0) (bad x y) ≡ good m → Measured (bad x y) m
+    go true e = bad_good 9 0 m e
+    go false e = bad_good x y m e
 
 -- what is then answered and left
-module _ (a : Checked (List ℕ)) (m : ℕ) (out : List ℕ) (e : reached (ends 0 a) ≡ Takes m) where
+module _ (a : Checked (List ℕ)) (m : ℕ) (out : List ℕ) (e : reached (ends 0 a) ≡ good m) where
   good_whole : effect out (within a) ≡ effect out (good (written a))
   good_whole = ap (λ (x : Checked (List ℕ)). effect out (within x)) (measured_takes a m e).is
 

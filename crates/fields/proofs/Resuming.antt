@@ -11,7 +11,6 @@ use Rattle.fields.specs.declared.layout.Part.{Part}
 use Rattle.fields.specs.declared.layout.Field.{Field}
 use Rattle.fields.specs.declared.layout.Field.TheVariants.{Uint}
 use Rattle.octets.specs.declared.number.Width.TheVariants.{One}
-use Rattle.fields.specs.declared.layout.FieldRead.TheVariants.{Found, Bad}
 use Rattle.fields.specs.Checked.{Checked, good, bad}
 use Rattle.fields.specs.Layout.{field, next, push, read, found_then, parts_found}
 use Rattle.fields.specs.Answers.{no_part, no_parts, with_zeros, layout_read}
@@ -59,10 +58,10 @@ module _ (fs : List Field) (s : List ℕ) (parts : List Part) (at i : ℕ) where
         ap (λ (l : List Field). read l s at)
         (drop-cons fs i (Uint One) more ∙ ap₂ (λ (g : Field) (k : ℕ). g ∷ drop k fs) (sym is) (sym (add-one i)))
 
-    pub stops : (x y : ℕ) → field f (drop at s) at ≡ Bad x y → resume (take i parts) (read (drop i fs) s at) ≡ bad x y
+    pub stops : (x y : ℕ) → field f (drop at s) at ≡ bad x y → resume (take i parts) (read (drop i fs) s at) ≡ bad x y
     stops x y e = rw (this, e)
 
-    pub goes : (p : Part) → i < length parts → field f (drop at s) at ≡ Found p → resume (take i parts) (read (drop i fs) s at) ≡ resume (take (i + 1) (set parts i p)) (read (drop (i + 1) fs) s (p.start + p.len))
+    pub goes : (p : Part) → i < length parts → field f (drop at s) at ≡ good p → resume (take i parts) (read (drop i fs) s at) ≡ resume (take (i + 1) (set parts i p)) (read (drop (i + 1) fs) s (p.start + p.len))
     goes p h e =
         let z : read (drop i fs) s at ≡ push p (read (drop (i + 1) fs) s (p.start + p.len)) = rw (this, e) in
         rw (z, add-one, take-suc-set parts i p h) (resume_push (take i parts) p (read (drop (suc i) fs) s (p.start + p.len)))
@@ -101,10 +100,10 @@ module _ (fs : List Field) (s : List ℕ) (from : ℕ) (parts : List Part) (at i
       let f : parts_found fs s from ≡ take i parts = h.finds ∙ ap (λ (l : List Part). take i parts ++ l) e ∙ append-nil (take i parts) in
       rw (f, r) (ap₂ (λ (k : ℕ) (l : List Part). record { number = x; place = y; met = k; parts = l }) (sym kept) padded_is)
 
-  read_is : parts_found (drop i fs) s at ≡ [] → (ps : List Part) → read fs s from ≡ good ps → record { number = 0; place = 0; met = i; parts = parts } ≡ layout_read (parts_found fs s from) (read fs s from)
-  read_is e ps r =
+  read_is : (n : ℕ) → i ≡ n → parts_found (drop i fs) s at ≡ [] → (ps : List Part) → read fs s from ≡ good ps → record { number = 0; place = 0; met = n; parts = parts } ≡ layout_read (parts_found fs s from) (read fs s from)
+  read_is n all e ps r =
       let f : parts_found fs s from ≡ take i parts = h.finds ∙ ap (λ (l : List Part). take i parts ++ l) e ∙ append-nil (take i parts) in
-      rw (f, r) (ap₂ (λ (k : ℕ) (l : List Part). record { number = 0; place = 0; met = k; parts = l }) (sym kept) padded_is)
+      rw (f, r) (ap₂ (λ (k : ℕ) (l : List Part). record { number = 0; place = 0; met = k; parts = l }) (sym (kept ∙ all)) padded_is)
 
   module _ (more : i < length fs) (f : Field) (is : f ≡ get_or fs i (Uint One)) where
     finds_this : parts_found (drop i fs) s at ≡ found_then (field f (drop at s) at) (λ p. parts_found (drop (i + 1) fs) s (p.start + p.len))
@@ -113,10 +112,10 @@ module _ (fs : List Field) (s : List ℕ) (from : ℕ) (parts : List Part) (at i
         ap (λ (l : List Field). parts_found l s at)
         (drop-cons fs i (Uint One) more ∙ ap₂ (λ (g : Field) (k : ℕ). g ∷ drop k fs) (sym is) (sym (add-one i)))
 
-    pub held_stops : (x y : ℕ) → field f (drop at s) at ≡ Bad x y → record { number = x; place = y; met = i; parts = parts } ≡ layout_read (parts_found fs s from) (read fs s from)
+    pub held_stops : (x y : ℕ) → field f (drop at s) at ≡ bad x y → record { number = x; place = y; met = i; parts = parts } ≡ layout_read (parts_found fs s from) (read fs s from)
     held_stops x y e = refused_is x y (rw (finds_this, e)) (h.reads ∙ stops fs s parts at i more f is x y e)
 
-    pub held_goes : (p : Part) → i < 8 → field f (drop at s) at ≡ Found p → Held fs s from (set parts i p) (p.start + p.len) (i + 1)
+    pub held_goes : (p : Part) → i < 8 → field f (drop at s) at ≡ good p → Held fs s from (set parts i p) (p.start + p.len) (i + 1)
     held_goes p l e =
         let m : i < length parts = omega (arith, h.size) in
         let z : parts_found (drop i fs) s at ≡ p ∷ parts_found (drop (i + 1) fs) s (p.start + p.len) = rw (finds_this, e) in
@@ -141,5 +140,5 @@ module _ (fs : List Field) (s : List ℕ) (from : ℕ) (parts : List Part) (at i
     pub held_extra : at < length s → record { number = 3; place = at; met = i; parts = parts } ≡ layout_read (parts_found fs s from) (read fs s from)
     held_extra l = refused_is 3 at nothing_found (h.reads ∙ extra fs s parts at i end l)
 
-    pub held_all : length s ≤ at → record { number = 0; place = 0; met = i; parts = parts } ≡ layout_read (parts_found fs s from) (read fs s from)
-    held_all l = read_is nothing_found (take i parts) (h.reads ∙ all fs s parts at i end l)
+    pub held_all : length s ≤ at → record { number = 0; place = 0; met = length fs; parts = parts } ≡ layout_read (parts_found fs s from) (read fs s from)
+    held_all l = read_is (length fs) end nothing_found (take i parts) (h.reads ∙ all fs s parts at i end l)

@@ -9,8 +9,6 @@ use lib.Dec.{ltb}
 use lib.Seq.{drop_at, drop-drop}
 use borrow.Author.Tests.{le-ltb, ltb-false}
 use Rattle.fields.specs.declared.layout.Part.{Part}
-use Rattle.fields.specs.declared.layout.FieldRead.{FieldRead}
-use Rattle.fields.specs.declared.layout.FieldRead.TheVariants.{Found, Bad}
 use Rattle.fields.specs.Checked.{Checked, good, bad, then}
 use Rattle.fields.specs.Layout.{field, next, push, read}
 use Rattle.fields.specs.Inner.{part}
@@ -38,9 +36,9 @@ write_again [] s at ps bs h e = go (ltb at (length s)) refl e
 write_again (f ∷ fs) s at ps bs h e =
     go (field f (drop at s) at) refl e (λ p qs. write_again fs s (p.start + p.len) qs bs)
   where
-    go : (x : FieldRead) → field f (drop at s) at ≡ x → next x (λ p. push p (read fs s (p.start + p.len))) ≡ good ps → ((p : Part) (qs : List Part) → p.start + p.len ≤ length s → read fs s (p.start + p.len) ≡ good qs → write (values fs qs s) (p.start + p.len) ≡ good (drop (p.start + p.len) s)) → write (values (f ∷ fs) ps s) at ≡ good (drop at s)
-    go (Bad x y) hx e less = bad_good x y ps e
-    go (Found p) hx e less = more (read fs s (p.start + p.len)) refl e
+    go : (x : Checked Part) → field f (drop at s) at ≡ x → next x (λ p. push p (read fs s (p.start + p.len))) ≡ good ps → ((p : Part) (qs : List Part) → p.start + p.len ≤ length s → read fs s (p.start + p.len) ≡ good qs → write (values fs qs s) (p.start + p.len) ≡ good (drop (p.start + p.len) s)) → write (values (f ∷ fs) ps s) at ≡ good (drop at s)
+    go (bad x y) hx e less = bad_good x y ps e
+    go (good p) hx e less = more (read fs s (p.start + p.len)) refl e
       where
         more : (a : Checked (List Part)) → read fs s (p.start + p.len) ≡ a → push p a ≡ good ps → write (values (f ∷ fs) ps s) at ≡ good (drop at s)
         more (bad x y) ha e = bad_good x y ps e

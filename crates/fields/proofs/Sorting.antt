@@ -17,19 +17,15 @@ use Rattle.fields.specs.declared.layout.Inner.{Inner}
 use Rattle.fields.specs.declared.layout.Inner.TheVariants.{Opaque, ExtensionList, NodeList}
 use Rattle.fields.specs.declared.layout.Field.{Field}
 use Rattle.fields.specs.declared.layout.Field.TheVariants.{Uint, Vector, OneOf, Fixed}
-use Rattle.fields.specs.declared.layout.FieldRead.{FieldRead}
-use Rattle.fields.specs.declared.layout.FieldRead.TheVariants.{Found, Bad}
-use Rattle.fields.specs.declared.layout.Inside.{Inside}
-use Rattle.fields.specs.declared.layout.Inside.TheVariants.{Fine, Wrong}
 use Rattle.fields.specs.Checked.{Checked, good, bad}
 use Rattle.fields.specs.Layout.{inside, vector_at, field, whole, next, push, read, found_then, parts_found, bytes_at}
 use Rattle.fields.specs.Extensions.{Extended, OutOfOrder, unordered, FifteenInList, ListOutOfOrder, FieldInOrder, InOrder, ReadByOrder, OrderFirst}
 use Rattle.fields.proofs.Answers.{bad_good, good_bad, same_good, same_place, same_number}
 use Rattle.fields.proofs.Places.{inside_some}
-use Rattle.fields.proofs.Founds.{FoundVector, found_vector, found_bad, number_refused, one_of_refused, fixed_refused}
+use Rattle.fields.proofs.Founds.{FoundVector, found_vector, number_refused, one_of_refused, fixed_refused}
 use Rattle.fields.proofs.Vectors.{bytes_take, bytes_drop}
 use Rattle.fields.proofs.Extending.{fine_is_extended, fifteen_is_out_of_order}
-use Rattle.fields.proofs.Ordering.{fifteen_asked, Fields, found, refused, ordered, field_fields}
+use Rattle.fields.proofs.Ordering.{fifteen_asked, Fields, found, stopped, ordered, field_fields}
 
 -- the body of a vector of extensions that was found, and a vector whose body is fine
 module _ (w least most : ℕ) (o : Order) (s : List ℕ) (at : ℕ) (p : Part) (bs : Bytes s) where
@@ -42,19 +38,19 @@ module _ (w least most : ℕ) (o : Order) (s : List ℕ) (at : ℕ) (p : Part) (
   body_at : {i : Inner} → FoundVector w least most i (drop at s) at p → bytes_at s p ≡ body
   body_at h = rw h.is (ap (take (unbe (take w (drop at s)))) (sym (drop-drop w at s)))
 
-  extended_found : vector_at w least most (ExtensionList o) (drop at s) at ≡ Found p → Extended o (bytes_at s p)
+  extended_found : vector_at w least most (ExtensionList o) (drop at s) at ≡ good p → Extended o (bytes_at s p)
   extended_found e =
       let h = found_vector w least most (ExtensionList o) (drop at s) at p e in
       rw (body_at h) ((fine_is_extended o body (at + w) body_bytes).0 h.fine)
 
-  found_extended : vector_at w least most (ExtensionList Unordered) (drop at s) at ≡ Found p → Extended o (bytes_at s p) → vector_at w least most (ExtensionList o) (drop at s) at ≡ Found p
+  found_extended : vector_at w least most (ExtensionList Unordered) (drop at s) at ≡ good p → Extended o (bytes_at s p) → vector_at w least most (ExtensionList o) (drop at s) at ≡ good p
   unfolding vector_at
   found_extended e x =
       let h = found_vector w least most (ExtensionList Unordered) (drop at s) at p e in
       let f = (fine_is_extended o body (at + w) body_bytes).1 (subst (Extended o) (body_at h) x) in
-      rw (le-ltb _ _ h.prefix, le-ltb _ _ h.low, le-ltb _ _ h.high, le-ltb _ _ h.room, f) (ap Found (sym h.is))
+      rw (le-ltb _ _ h.prefix, le-ltb _ _ h.low, le-ltb _ _ h.high, le-ltb _ _ h.room, f) (ap good (sym h.is))
 
-field_in_order : (f : Field) (s : List ℕ) (at : ℕ) (p : Part) → Bytes s → field f (drop at s) at ≡ Found p → FieldInOrder f s p
+field_in_order : (f : Field) (s : List ℕ) (at : ℕ) (p : Part) → Bytes s → field f (drop at s) at ≡ good p → FieldInOrder f s p
 field_in_order (Uint w) s at p bs e = tt
 field_in_order (Vector w least most Opaque) s at p bs e = tt
 field_in_order (Vector w least most (ExtensionList o)) s at p bs e = extended_found (width_of w) least most o s at p bs e
@@ -62,7 +58,7 @@ field_in_order (Vector w least most NodeList) s at p bs e = tt
 field_in_order (OneOf w least most) s at p bs e = tt
 field_in_order (Fixed n) s at p bs e = tt
 
-in_order_field : (f : Field) (s : List ℕ) (at : ℕ) (p : Part) → Bytes s → field (unordered f) (drop at s) at ≡ Found p → FieldInOrder f s p → field f (drop at s) at ≡ Found p
+in_order_field : (f : Field) (s : List ℕ) (at : ℕ) (p : Part) → Bytes s → field (unordered f) (drop at s) at ≡ good p → FieldInOrder f s p → field f (drop at s) at ≡ good p
 in_order_field (Uint w) s at p bs e x = e
 in_order_field (Vector w least most Opaque) s at p bs e x = e
 in_order_field (Vector w least most (ExtensionList o)) s at p bs e x = found_extended (width_of w) least most o s at p bs e x
@@ -76,9 +72,9 @@ unfolding read
 read_in_order [] s at ps bs e = tt
 read_in_order (f ∷ fs) s at ps bs e = go (field f (drop at s) at) refl e (λ p. read_in_order fs s (p.start + p.len))
   where
-    go : (x : FieldRead) → field f (drop at s) at ≡ x → next x (λ p. push p (read fs s (p.start + p.len))) ≡ good ps → ((p : Part) (qs : List Part) → Bytes s → read fs s (p.start + p.len) ≡ good qs → InOrder fs s qs) → InOrder (f ∷ fs) s ps
-    go (Bad x y) hx e less = bad_good x y ps e
-    go (Found p) hx e less = more (read fs s (p.start + p.len)) refl e
+    go : (x : Checked Part) → field f (drop at s) at ≡ x → next x (λ p. push p (read fs s (p.start + p.len))) ≡ good ps → ((p : Part) (qs : List Part) → Bytes s → read fs s (p.start + p.len) ≡ good qs → InOrder fs s qs) → InOrder (f ∷ fs) s ps
+    go (bad x y) hx e less = bad_good x y ps e
+    go (good p) hx e less = more (read fs s (p.start + p.len)) refl e
       where
         more : (a : Checked (List Part)) → read fs s (p.start + p.len) ≡ a → push p a ≡ good ps → InOrder (f ∷ fs) s ps
         more (bad x y) ha e = bad_good x y ps e
@@ -93,9 +89,9 @@ in_order_read (f ∷ fs) s at ps bs e x = go (field (unordered f) (drop at s) at
     gs : List Field
     gs = map unordered fs
 
-    go : (z : FieldRead) → field (unordered f) (drop at s) at ≡ z → next z (λ p. push p (read gs s (p.start + p.len))) ≡ good ps → ((p : Part) (qs : List Part) → Bytes s → read gs s (p.start + p.len) ≡ good qs → InOrder fs s qs → read fs s (p.start + p.len) ≡ good qs) → next (field f (drop at s) at) (λ p. push p (read fs s (p.start + p.len))) ≡ good ps
-    go (Bad u v) hz e less = bad_good u v ps e
-    go (Found p) hz e less = more (read gs s (p.start + p.len)) refl e
+    go : (z : Checked Part) → field (unordered f) (drop at s) at ≡ z → next z (λ p. push p (read gs s (p.start + p.len))) ≡ good ps → ((p : Part) (qs : List Part) → Bytes s → read gs s (p.start + p.len) ≡ good qs → InOrder fs s qs → read fs s (p.start + p.len) ≡ good qs) → next (field f (drop at s) at) (λ p. push p (read fs s (p.start + p.len))) ≡ good ps
+    go (bad u v) hz e less = bad_good u v ps e
+    go (good p) hz e less = more (read gs s (p.start + p.len)) refl e
       where
         more : (a : Checked (List Part)) → read gs s (p.start + p.len) ≡ a → push p a ≡ good ps → next (field f (drop at s) at) (λ p. push p (read fs s (p.start + p.len))) ≡ good ps
         more (bad u v) ha e = bad_good u v ps e
@@ -107,7 +103,7 @@ in_order_read (f ∷ fs) s at ps bs e x = go (field (unordered f) (drop at s) at
 pub read_by_order : ReadByOrder
 read_by_order fs s at ps bs e = (read_in_order fs s at ps bs, in_order_read fs s at ps bs e)
 
--- what is refused otherwise is refused behind lists in order
+-- what is stopped otherwise is stopped behind lists in order
 pub order_first : OrderFirst
 unfolding read parts_found
 order_first [] s at x y bs e h = tt
@@ -116,23 +112,23 @@ order_first (f ∷ fs) s at x y bs e h = go (field f (drop at s) at) (field (uno
     gs : List Field
     gs = map unordered fs
 
-    go : (a b : FieldRead) → field f (drop at s) at ≡ a → Fields a b → next a (λ p. push p (read fs s (p.start + p.len))) ≡ bad x y → ((p : Part) → read fs s (p.start + p.len) ≡ bad x y → (x ≡ 15 → ⊥) → InOrder fs s (parts_found gs s (p.start + p.len))) → InOrder (f ∷ fs) s (found_then b (λ p. parts_found gs s (p.start + p.len)))
+    go : (a b : Checked Part) → field f (drop at s) at ≡ a → Fields a b → next a (λ p. push p (read fs s (p.start + p.len))) ≡ bad x y → ((p : Part) → read fs s (p.start + p.len) ≡ bad x y → (x ≡ 15 → ⊥) → InOrder fs s (parts_found gs s (p.start + p.len))) → InOrder (f ∷ fs) s (found_then b (λ p. parts_found gs s (p.start + p.len)))
     go a b ha (found p n o) e less = rw o (field_in_order f s at p bs (ha ∙ n), more (read fs s (p.start + p.len)) refl (rw n at e))
       where
         more : (c : Checked (List Part)) → read fs s (p.start + p.len) ≡ c → push p c ≡ bad x y → InOrder fs s (parts_found gs s (p.start + p.len))
         more (good qs) hc e = good_bad x y _ e
         more (bad u v) hc e = less p (rw hc e) h
-    go a b ha (refused u v w n o) e less = rw o tt
+    go a b ha (stopped u v w n o) e less = rw o tt
     go a b ha (ordered v n o) e less = absurd (h (same_number 15 x v y (rw n at e)))
 
 -- 15 stands in a list of extensions
-fifteen_order : (i : Inner) (b : List ℕ) (at y : ℕ) → Bytes b → inside i b at ≡ Wrong 15 y → OutOfOrder b at y
+fifteen_order : (i : Inner) (b : List ℕ) (at y : ℕ) → Bytes b → inside i b at ≡ bad 15 y → OutOfOrder b at y
 fifteen_order Opaque b at y bs e = absurd (fifteen_asked Opaque b at y refl e)
 fifteen_order (ExtensionList Ordered) b at y bs e = (fifteen_is_out_of_order b at y bs).0 e
 fifteen_order (ExtensionList Unordered) b at y bs e = absurd (fifteen_asked (ExtensionList Unordered) b at y refl e)
 fifteen_order NodeList b at y bs e = absurd (fifteen_asked NodeList b at y refl e)
 
-vector_fifteen : (w least most : ℕ) (i : Inner) (s : List ℕ) (at y : ℕ) → Bytes s → vector_at w least most i (drop at s) at ≡ Bad 15 y → ListOutOfOrder s y
+vector_fifteen : (w least most : ℕ) (i : Inner) (s : List ℕ) (at y : ℕ) → Bytes s → vector_at w least most i (drop at s) at ≡ bad 15 y → ListOutOfOrder s y
 unfolding vector_at
 vector_fifteen w least most i s at y bs e =
     go (ltb (length r) w) (ltb n least) (ltb most n) (ltb (length r - w) n) (inside i (take n (drop w r)) (at + w)) refl refl refl e
@@ -143,16 +139,16 @@ vector_fifteen w least most i s at y bs e =
     n : ℕ
     n = unbe (take w r)
 
-    other : {A : Type 0} (x p : ℕ) → (x ≡ 15 → ⊥) → Bad x p ≡ Bad 15 y → A
+    other : {A : Type 0} (x p : ℕ) → (x ≡ 15 → ⊥) → ◌≡◌ {A = Checked Part} (bad x p) (bad 15 y) → A
     other x p h e = let z : x ≡ 15 = cc in absurd (h z)
 
-    go : (a b c d : Bool) (z : Inside) → ltb (length r) w ≡ a → ltb (length r - w) n ≡ d → inside i (take n (drop w r)) (at + w) ≡ z → cond a (Bad 2 at) (cond b (Bad 5 at) (cond c (Bad 5 at) (cond d (Bad 2 at) (whole z (record { start = at + w; len = n; value = n }))))) ≡ Bad 15 y → ListOutOfOrder s y
+    go : (a b c d : Bool) (z : Checked Unit) → ltb (length r) w ≡ a → ltb (length r - w) n ≡ d → inside i (take n (drop w r)) (at + w) ≡ z → cond a (bad 2 at) (cond b (bad 5 at) (cond c (bad 5 at) (cond d (bad 2 at) (whole z (record { start = at + w; len = n; value = n }))))) ≡ bad 15 y → ListOutOfOrder s y
     go true b c d z ha hd hz e = other 2 at (λ q. omega arith) e
     go false true c d z ha hd hz e = other 5 at (λ q. omega arith) e
     go false false true d z ha hd hz e = other 5 at (λ q. omega arith) e
     go false false false true z ha hd hz e = other 2 at (λ q. omega arith) e
-    go false false false false Fine ha hd hz e = found_bad 15 y _ e
-    go false false false false (Wrong x p) ha hd hz e =
+    go false false false false (good u) ha hd hz e = good_bad 15 y _ e
+    go false false false false (bad x p) ha hd hz e =
         let ex : x ≡ 15 = cc in
         let ep : p ≡ y = cc in
         let o = fifteen_order i (take n (drop w r)) (at + w) y (bytes_take n (bytes_drop w (bytes_drop at bs))) (hz ∙ rw (ex, ep)) in
@@ -174,15 +170,15 @@ fifteen_in_list [] s at y bs e = go (ltb at (length s)) e
     go false e = good_bad 15 y _ e
 fifteen_in_list (f ∷ fs) s at y bs e = go (field f (drop at s) at) refl e (λ p. fifteen_in_list fs s (p.start + p.len) y bs)
   where
-    one : (f : Field) → field f (drop at s) at ≡ Bad 15 y → ListOutOfOrder s y
+    one : (f : Field) → field f (drop at s) at ≡ bad 15 y → ListOutOfOrder s y
     one (Uint w) h = absurd (let z = (number_refused (width_of w) (drop at s) at 15 y h).0 in omega arith)
     one (Vector w least most i) h = vector_fifteen (width_of w) least most i s at y bs h
     one (OneOf w least most) h = absurd (let z = (one_of_refused (width_of w) least most (drop at s) at 15 y h).1 in omega arith)
     one (Fixed n) h = absurd (let z = (fixed_refused n (drop at s) at 15 y h).0 in omega arith)
 
-    go : (z : FieldRead) → field f (drop at s) at ≡ z → next z (λ p. push p (read fs s (p.start + p.len))) ≡ bad 15 y → ((p : Part) → read fs s (p.start + p.len) ≡ bad 15 y → ListOutOfOrder s y) → ListOutOfOrder s y
-    go (Bad u v) hz e less = let a = same_number u 15 v y e in let b = same_place u 15 v y e in one f (hz ∙ ap₂ Bad (sym a) (sym b))
-    go (Found p) hz e less = more (read fs s (p.start + p.len)) refl e
+    go : (z : Checked Part) → field f (drop at s) at ≡ z → next z (λ p. push p (read fs s (p.start + p.len))) ≡ bad 15 y → ((p : Part) → read fs s (p.start + p.len) ≡ bad 15 y → ListOutOfOrder s y) → ListOutOfOrder s y
+    go (bad u v) hz e less = let a = same_number u 15 v y e in let b = same_place u 15 v y e in one f (hz ∙ ap₂ bad (sym a) (sym b))
+    go (good p) hz e less = more (read fs s (p.start + p.len)) refl e
       where
         more : (a : Checked (List Part)) → read fs s (p.start + p.len) ≡ a → push p a ≡ bad 15 y → ListOutOfOrder s y
         more (good qs) ha e = good_bad 15 y _ e

@@ -9,9 +9,7 @@ use lib.Seq.{drop_at, length-take-le, drop-drop, take-take}
 use borrow.Author.Tests.{lt-ltb, le-ltb}
 use Rattle.fields.specs.declared.layout.Part.{Part}
 use Rattle.fields.specs.declared.layout.Inner.TheVariants.{NodeList}
-use Rattle.fields.specs.declared.layout.Inside.{Inside}
-use Rattle.fields.specs.declared.layout.Inside.TheVariants.{Fine, Wrong}
-use Rattle.fields.specs.Checked.{good}
+use Rattle.fields.specs.Checked.{good, Checked, bad}
 use Rattle.fields.specs.Layout.{inside, bytes_at}
 use Rattle.fields.specs.Write.{stripped, unwrap, fine}
 use Rattle.fields.specs.Effect.{unwritten, effect}
@@ -85,15 +83,15 @@ module _ (s out : List ℕ) (p : Part) where
     lies : part s p.start (p.start + p.len) ≡ bytes_at s p
     lies = let z : p.start + p.len - p.start ≡ p.len = omega arith in rw z
 
-    found : (x : Inside) → x ≡ inside NodeList (part s p.start (p.start + p.len)) p.start → path_at s p ≡ fine x (unwrap NodeList (bytes_at s p))
+    found : (x : Checked Unit) → x ≡ inside NodeList (part s p.start (p.start + p.len)) p.start → path_at s p ≡ fine x (unwrap NodeList (bytes_at s p))
     unfolding path_at
     found x e = rw (le-ltb _ _ h, ← lies, ← e)
 
-    pub wrong : (x at : ℕ) → Wrong x at ≡ inside NodeList (part s p.start (p.start + p.len)) p.start → copy_path s p out ≡ unwritten x at out
+    pub wrong : (x at : ℕ) → bad x at ≡ inside NodeList (part s p.start (p.start + p.len)) p.start → copy_path s p out ≡ unwritten x at out
     unfolding copy_path
-    wrong x at e = ap (effect out) (found (Wrong x at) e)
+    wrong x at e = ap (effect out) (found (bad x at) e)
 
-    module _ (e : Fine ≡ inside NodeList (part s p.start (p.start + p.len)) p.start) where
+    module _ (e : (good tt) ≡ inside NodeList (part s p.start (p.start + p.len)) p.start) where
       size : length (bytes_at s p) ≡ p.len
       size = length-take-le p.len (drop p.start s) (rw length-drop (omega arith))
 
@@ -107,7 +105,7 @@ module _ (s out : List ℕ) (p : Part) where
       all : path_at s p ≡ good hashes
       unfolding hashes unwrap
       all =
-          found Fine e ∙ ap good (ap (λ (n : ℕ). stripped (n / 33) (bytes_at s p)) size
+          found (good tt) e ∙ ap good (ap (λ (n : ℕ). stripped (n / 33) (bytes_at s p)) size
           ∙ stripped_take (p.len / 33) p.len (drop p.start s) (omega arith) (rw length-drop (omega arith)))
 
       pub short : length out < p.len / 33 * 32 → copy_path s p out ≡ unwritten 9 0 out

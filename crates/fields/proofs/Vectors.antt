@@ -11,9 +11,7 @@ use borrow.Author.Tests.{lt-ltb, le-ltb, le-leb, leb-true, eq-eqb, ne_eqb}
 use Rattle.fields.specs.declared.layout.Part.{Part}
 use Rattle.fields.specs.declared.layout.Inner.{Inner}
 use Rattle.fields.specs.declared.layout.Field.TheVariants.{Uint, Vector, OneOf, Fixed}
-use Rattle.fields.specs.declared.layout.FieldRead.TheVariants.{Found, Bad}
-use Rattle.fields.specs.declared.layout.Inside.TheVariants.{Fine}
-use Rattle.fields.specs.Checked.{good}
+use Rattle.fields.specs.Checked.{good, bad}
 use Rattle.octets.specs.Bytes.{Bytes, no_bytes, one_byte}
 use Rattle.fields.specs.Layout.{bytes_at, inside, whole, number_at, vector_at, allowed, one_of_at, fixed_at}
 use Rattle.octets.specs.declared.number.Width.{Width}
@@ -43,7 +41,7 @@ bytes_drop (suc n) no_bytes = no_bytes
 bytes_drop (suc n) (one_byte h b) = bytes_drop n b
 
 -- a vector that was found, filled with its value, is the same bytes
-pub vector_again : (w least most : ℕ) (i : Inner) (s : List ℕ) (at : ℕ) (p : Part) → Bytes s → vector_at w least most i (drop at s) at ≡ Found p → vector_filled w least most i (unwrap i (bytes_at s p)) at ≡ good (part s at (p.start + p.len))
+pub vector_again : (w least most : ℕ) (i : Inner) (s : List ℕ) (at : ℕ) (p : Part) → Bytes s → vector_at w least most i (drop at s) at ≡ good p → vector_filled w least most i (unwrap i (bytes_at s p)) at ≡ good (part s at (p.start + p.len))
 unfolding vector_filled
 vector_again w least most i s at p bs e =
     let h = found_vector w least most i (drop at s) at p e in
@@ -52,10 +50,10 @@ vector_again w least most i s at p bs e =
     n : ℕ
     n = unbe (take w (drop at s))
 
-    again : w ≤ length (drop at s) → least ≤ n → n ≤ most → n ≤ length (drop at s) - w → inside i (take n (drop w (drop at s))) (at + w) ≡ Fine → vector_filled w least most i (unwrap i (take n (drop (at + w) s))) at ≡ good (part s at (at + w + n))
+    again : w ≤ length (drop at s) → least ≤ n → n ≤ most → n ≤ length (drop at s) - w → inside i (take n (drop w (drop at s))) (at + w) ≡ good tt → vector_filled w least most i (unwrap i (take n (drop (at + w) s))) at ≡ good (part s at (at + w + n))
     again pre low high room fin =
         let d : drop w (drop at s) ≡ drop (at + w) s = drop-drop w at s in
-        let b : inside i (take n (drop (at + w) s)) (at + w) ≡ Fine = rw d at fin in
+        let b : inside i (take n (drop (at + w) s)) (at + w) ≡ good tt = rw d at fin in
         let o = body i (take n (drop (at + w) s)) (at + w) b in
         let l : length (take n (drop (at + w) s)) ≡ n = length-take-le n (drop (at + w) s) (rw (← d, length-drop w (drop at s)) room) in
         let m : body_size i (length (unwrap i (take n (drop (at + w) s)))) ≡ n = o.size ∙ l in
@@ -66,7 +64,7 @@ vector_again w least most i s at p bs e =
         rw (m, le-ltb _ _ low, le-ltb _ _ high, o.round, o.again, b, l, y) (ap good t)
 
 -- a number that was found, written again, is the same bytes
-number_again : (w : ℕ) (s : List ℕ) (at : ℕ) (p : Part) → Bytes s → number_at w (drop at s) at ≡ Found p → (be w p.value ≡ part s at (p.start + p.len)) × (at ≤ p.start + p.len)
+number_again : (w : ℕ) (s : List ℕ) (at : ℕ) (p : Part) → Bytes s → number_at w (drop at s) at ≡ good p → (be w p.value ≡ part s at (p.start + p.len)) × (at ≤ p.start + p.len)
 number_again w s at p bs e =
     let h = found_number w (drop at s) at p e in
     let l : length (take w (drop at s)) ≡ w = length-take-le w (drop at s) h.1 in
@@ -105,7 +103,7 @@ module _ (w : ℕ) (b rest : List ℕ) (fit : length b < 256 ^ w) where
   pub body_there : take (length b) (drop w bytes_of) ≡ b
   body_there = ap (λ (x : List ℕ). take (length b) (drop w x)) laid_out ∙ ap (take (length b)) (drop_at (be w (length b)) (b ++ rest) w (be_length w (length b))) ∙ take_at b rest (length b) refl
 
-  pub vector_there : (least most : ℕ) (i : Inner) (at : ℕ) → vector_at w least most i bytes_of at ≡ cond (ltb (length b) least) (Bad 5 at) (cond (ltb most (length b)) (Bad 5 at) (whole (inside i b (at + w)) (record { start = at + w; len = length b; value = length b })))
+  pub vector_there : (least most : ℕ) (i : Inner) (at : ℕ) → vector_at w least most i bytes_of at ≡ cond (ltb (length b) least) (bad 5 at) (cond (ltb most (length b)) (bad 5 at) (whole (inside i b (at + w)) (record { start = at + w; len = length b; value = length b })))
   unfolding vector_at
   vector_there least most i at =
       let l : length bytes_of ≡ w + length b + length rest = length-append (be w (length b) ++ b) rest ∙ omega (arith, length-append (be w (length b)) b, be_length w (length b)) in
@@ -117,7 +115,7 @@ pub vector_by_elements : VectorByElements
 vector_by_elements w least most i b rest at low high fit = vector_there (width_of w) b rest fit least most i at ∙ rw (le-ltb (length b) least low, le-ltb most (length b) high)
 
 -- a number that is there
-pub number_there : (w n : ℕ) (rest : List ℕ) (at : ℕ) → n < 256 ^ w → number_at w (be w n ++ rest) at ≡ Found (record { start = at; len = w; value = n })
+pub number_there : (w n : ℕ) (rest : List ℕ) (at : ℕ) → n < 256 ^ w → number_at w (be w n ++ rest) at ≡ good (record { start = at; len = w; value = n })
 unfolding number_at
 number_there w n rest at h =
     let l : length (be w n) ≡ w = be_length w n in
@@ -139,7 +137,7 @@ kept_number x n front rest h =
     }
 
 -- one of few that is there: it is judged
-pub one_of_there : (w least most n : ℕ) (rest : List ℕ) (at : ℕ) → n < 256 ^ w → one_of_at w least most (be w n ++ rest) at ≡ cond (allowed least most n) (Found (record { start = at; len = w; value = n })) (Bad 4 at)
+pub one_of_there : (w least most n : ℕ) (rest : List ℕ) (at : ℕ) → n < 256 ^ w → one_of_at w least most (be w n ++ rest) at ≡ cond (allowed least most n) (good (record { start = at; len = w; value = n })) (bad 4 at)
 unfolding one_of_at
 one_of_there w least most n rest at h = rw (number_there w n rest at h)
 
@@ -156,7 +154,7 @@ kept_one_of x least most n front rest h a =
     }
 
 -- bytes of fixed length that are there
-pub fixed_there : (b rest : List ℕ) (at : ℕ) → fixed_at (length b) (b ++ rest) at ≡ Found (record { start = at; len = length b; value = length b })
+pub fixed_there : (b rest : List ℕ) (at : ℕ) → fixed_at (length b) (b ++ rest) at ≡ good (record { start = at; len = length b; value = length b })
 unfolding fixed_at
 fixed_there b rest at =
     let room : length b ≤ length (b ++ rest) = omega (arith, length-append b rest) in
@@ -176,7 +174,7 @@ module _ (width : Width) (least most : ℕ) (i : Inner) (v front rest : List ℕ
   abbrev w : ℕ
   w = width_of width
 
-  kept_vector : most < 256 ^ w → least ≤ body_size i (length v) → body_size i (length v) ≤ most → wholes i (length v) ≡ true → inside i (wrap i v) (length front + w) ≡ Fine → Kept (Vector width least most i) (bytes v) front (be w (length (wrap i v)) ++ wrap i v) rest
+  kept_vector : most < 256 ^ w → least ≤ body_size i (length v) → body_size i (length v) ≤ most → wholes i (length v) ≡ true → inside i (wrap i v) (length front + w) ≡ good tt → Kept (Vector width least most i) (bytes v) front (be w (length (wrap i v)) ++ wrap i v) rest
   unfolding opened
   kept_vector fit low high round fin =
       let b = wrap i v in
@@ -232,7 +230,7 @@ one_of_judged w least most n rest at = (
 pub fixed_as_is : FixedAsIs
 unfolding fixed_filled
 fixed_as_is n b rest at = (
-  (λ e. (subst (λ (k : ℕ). fixed_at k (b ++ rest) at ≡ Found (record { start = at; len = k; value = k })) e (fixed_there b rest at), rw (eq-eqb _ _ e))),
+  (λ e. (subst (λ (k : ℕ). fixed_at k (b ++ rest) at ≡ good (record { start = at; len = k; value = k })) e (fixed_there b rest at), rw (eq-eqb _ _ e))),
   λ h. rw (ne_eqb _ _ h),
 )
 

@@ -11,9 +11,6 @@ use Rattle.octets.specs.Numbers.{width_of, unbe}
 use Rattle.fields.specs.declared.layout.Part.{Part}
 use Rattle.fields.specs.declared.layout.Field.{Field}
 use Rattle.fields.specs.declared.layout.Field.TheVariants.{Uint, Vector, OneOf, Fixed}
-use Rattle.fields.specs.declared.layout.Inside.TheVariants.{Fine}
-use Rattle.fields.specs.declared.layout.FieldRead.{FieldRead}
-use Rattle.fields.specs.declared.layout.FieldRead.TheVariants.{Found, Bad}
 use Rattle.fields.specs.Checked.{Checked, good, bad}
 use Rattle.fields.specs.Layout.{inside, field, next, push, read, found_then, parts_found, bytes_at}
 use Rattle.fields.specs.Claims.{Each, Met, FoundBefore}
@@ -37,11 +34,11 @@ module _ (s : List ℕ) where
   abbrev Inside : Part → Type 0
   Inside p = p.start + p.len ≤ length s
 
-  found_inside : (f : Field) (at : ℕ) (p : Part) → at ≤ length s → field f (drop at s) at ≡ Found p → Inside p
+  found_inside : (f : Field) (at : ℕ) (p : Part) → at ≤ length s → field f (drop at s) at ≡ good p → Inside p
   found_inside f at p h e = omega (arith, found_within f (drop at s) at p e, length-drop at s)
 
   -- what holds of each field that is found holds of all that are read
-  pub parts_all : (P : Field → Part → Type 0) → ((f : Field) (at : ℕ) (p : Part) → at ≤ length s → field f (drop at s) at ≡ Found p → P f p) → (fs : List Field) (at : ℕ) (ps : List Part) → at ≤ length s → read fs s at ≡ good ps → Both P fs ps
+  pub parts_all : (P : Field → Part → Type 0) → ((f : Field) (at : ℕ) (p : Part) → at ≤ length s → field f (drop at s) at ≡ good p → P f p) → (fs : List Field) (at : ℕ) (ps : List Part) → at ≤ length s → read fs s at ≡ good ps → Both P fs ps
   unfolding read
   parts_all P one [] at ps h e = go (ltb at (length s)) e
     where
@@ -50,9 +47,9 @@ module _ (s : List ℕ) where
       go false e = subst (λ (x : List Part). Both P [] x) (same_good [] ps e) tt
   parts_all P one (f ∷ fs) at ps h e = go (field f (drop at s) at) refl e (λ p. parts_all P one fs (p.start + p.len))
     where
-      go : (x : FieldRead) → field f (drop at s) at ≡ x → next x (λ p. push p (read fs s (p.start + p.len))) ≡ good ps → ((p : Part) (qs : List Part) → Inside p → read fs s (p.start + p.len) ≡ good qs → Both P fs qs) → Both P (f ∷ fs) ps
-      go (Bad x y) hx e less = bad_good x y ps e
-      go (Found p) hx e less = more (read fs s (p.start + p.len)) refl e
+      go : (x : Checked Part) → field f (drop at s) at ≡ x → next x (λ p. push p (read fs s (p.start + p.len))) ≡ good ps → ((p : Part) (qs : List Part) → Inside p → read fs s (p.start + p.len) ≡ good qs → Both P fs qs) → Both P (f ∷ fs) ps
+      go (bad x y) hx e less = bad_good x y ps e
+      go (good p) hx e less = more (read fs s (p.start + p.len)) refl e
         where
           more : (a : Checked (List Part)) → read fs s (p.start + p.len) ≡ a → push p a ≡ good ps → Both P (f ∷ fs) ps
           more (bad x y) ha e = bad_good x y ps e
@@ -70,9 +67,9 @@ module _ (s : List ℕ) where
       go false q e = good_bad x y _ e
   place_within (f ∷ fs) at x y h e = go (field f (drop at s) at) refl e (λ p. place_within fs (p.start + p.len) x y)
     where
-      go : (z : FieldRead) → field f (drop at s) at ≡ z → next z (λ p. push p (read fs s (p.start + p.len))) ≡ bad x y → ((p : Part) → Inside p → read fs s (p.start + p.len) ≡ bad x y → y ≤ length s) → y ≤ length s
-      go (Bad u v) hz e less = omega (arith, same_place u x v y e, (refused_at_lem f (drop at s) at u v hz).1, length-drop at s)
-      go (Found p) hz e less = more (read fs s (p.start + p.len)) refl e
+      go : (z : Checked Part) → field f (drop at s) at ≡ z → next z (λ p. push p (read fs s (p.start + p.len))) ≡ bad x y → ((p : Part) → Inside p → read fs s (p.start + p.len) ≡ bad x y → y ≤ length s) → y ≤ length s
+      go (bad u v) hz e less = omega (arith, same_place u x v y e, (refused_at_lem f (drop at s) at u v hz).1, length-drop at s)
+      go (good p) hz e less = more (read fs s (p.start + p.len)) refl e
         where
           more : (a : Checked (List Part)) → read fs s (p.start + p.len) ≡ a → push p a ≡ bad x y → y ≤ length s
           more (good qs) ha e = good_bad x y _ e
@@ -88,9 +85,9 @@ read_found [] s at ps e = go (ltb at (length s)) e
     go false e = same_good [] ps e
 read_found (f ∷ fs) s at ps e = go (field f (drop at s) at) e (λ p. read_found fs s (p.start + p.len))
   where
-    go : (x : FieldRead) → next x (λ p. push p (read fs s (p.start + p.len))) ≡ good ps → ((p : Part) (qs : List Part) → read fs s (p.start + p.len) ≡ good qs → parts_found fs s (p.start + p.len) ≡ qs) → found_then x (λ p. parts_found fs s (p.start + p.len)) ≡ ps
-    go (Bad x y) e less = bad_good x y ps e
-    go (Found p) e less = more (read fs s (p.start + p.len)) refl e
+    go : (x : Checked Part) → next x (λ p. push p (read fs s (p.start + p.len))) ≡ good ps → ((p : Part) (qs : List Part) → read fs s (p.start + p.len) ≡ good qs → parts_found fs s (p.start + p.len) ≡ qs) → found_then x (λ p. parts_found fs s (p.start + p.len)) ≡ ps
+    go (bad x y) e less = bad_good x y ps e
+    go (good p) e less = more (read fs s (p.start + p.len)) refl e
       where
         more : (a : Checked (List Part)) → read fs s (p.start + p.len) ≡ a → push p a ≡ good ps → p ∷ parts_found fs s (p.start + p.len) ≡ ps
         more (bad x y) ha e = bad_good x y ps e
@@ -105,9 +102,9 @@ met_behind [] s at x y e = go (ltb at (length s)) e
     go false e = good_bad x y _ e
 met_behind (f ∷ fs) s at x y e = go (field f (drop at s) at) refl e (λ p. met_behind fs s (p.start + p.len) x y)
   where
-    go : (z : FieldRead) → field f (drop at s) at ≡ z → next z (λ p. push p (read fs s (p.start + p.len))) ≡ bad x y → ((p : Part) → read fs s (p.start + p.len) ≡ bad x y → Met fs s (p.start + p.len) x y × (p.start + p.len ≤ y)) → Met (f ∷ fs) s at x y × (at ≤ y)
-    go (Bad u v) hz e less = (record { before = rw hz tt; some = rw hz (omega arith); over = λ q. absurd (omega (arith, rw hz at q)) }, omega (arith, same_place u x v y e, (refused_at_lem f (drop at s) at u v hz).0))
-    go (Found p) hz e less = more (read fs s (p.start + p.len)) refl e
+    go : (z : Checked Part) → field f (drop at s) at ≡ z → next z (λ p. push p (read fs s (p.start + p.len))) ≡ bad x y → ((p : Part) → read fs s (p.start + p.len) ≡ bad x y → Met fs s (p.start + p.len) x y × (p.start + p.len ≤ y)) → Met (f ∷ fs) s at x y × (at ≤ y)
+    go (bad u v) hz e less = (record { before = rw hz tt; some = rw hz (omega arith); over = λ q. absurd (omega (arith, rw hz at q)) }, omega (arith, same_place u x v y e, (refused_at_lem f (drop at s) at u v hz).0))
+    go (good p) hz e less = more (read fs s (p.start + p.len)) refl e
       where
         more : (a : Checked (List Part)) → read fs s (p.start + p.len) ≡ a → push p a ≡ bad x y → Met (f ∷ fs) s at x y × (at ≤ y)
         more (good qs) ha e = good_bad x y _ e
@@ -128,9 +125,9 @@ unfolding parts_found
 found_few [] s at = omega arith
 found_few (f ∷ fs) s at = go (field f (drop at s) at) (λ p. found_few fs s (p.start + p.len))
   where
-    go : (x : FieldRead) → ((p : Part) → length (parts_found fs s (p.start + p.len)) ≤ length fs) → length (found_then x (λ p. parts_found fs s (p.start + p.len))) ≤ suc (length fs)
-    go (Bad x y) less = omega arith
-    go (Found p) less = omega (arith, less p)
+    go : (x : Checked Part) → ((p : Part) → length (parts_found fs s (p.start + p.len)) ≤ length fs) → length (found_then x (λ p. parts_found fs s (p.start + p.len))) ≤ suc (length fs)
+    go (bad x y) less = omega arith
+    go (good p) less = omega (arith, less p)
 
 -- as many parts as fields
 pub read_count : (fs : List Field) (s : List ℕ) (at : ℕ) (ps : List Part) → read fs s at ≡ good ps → length ps ≡ length fs
@@ -142,9 +139,9 @@ read_count [] s at ps e = go (ltb at (length s)) e
     go false e = sym (ap length (same_good [] ps e))
 read_count (f ∷ fs) s at ps e = go (field f (drop at s) at) e (λ p. read_count fs s (p.start + p.len))
   where
-    go : (x : FieldRead) → next x (λ p. push p (read fs s (p.start + p.len))) ≡ good ps → ((p : Part) (qs : List Part) → read fs s (p.start + p.len) ≡ good qs → length qs ≡ length fs) → length ps ≡ suc (length fs)
-    go (Bad x y) e less = bad_good x y ps e
-    go (Found p) e less = more (read fs s (p.start + p.len)) refl e
+    go : (x : Checked Part) → next x (λ p. push p (read fs s (p.start + p.len))) ≡ good ps → ((p : Part) (qs : List Part) → read fs s (p.start + p.len) ≡ good qs → length qs ≡ length fs) → length ps ≡ suc (length fs)
+    go (bad x y) e less = bad_good x y ps e
+    go (good p) e less = more (read fs s (p.start + p.len)) refl e
       where
         more : (a : Checked (List Part)) → read fs s (p.start + p.len) ≡ a → push p a ≡ good ps → length ps ≡ suc (length fs)
         more (bad x y) ha e = bad_good x y ps e
@@ -155,9 +152,9 @@ abbrev pub Whole : List ℕ → Field → Part → Type 0
 Whole s (Uint w) p = Unit
 Whole s (OneOf w least most) p = Unit
 Whole s (Fixed n) p = Unit
-Whole s (Vector w least most i) p = (p.start + p.len ≤ length s) × (inside i (bytes_at s p) p.start ≡ Fine)
+Whole s (Vector w least most i) p = (p.start + p.len ≤ length s) × (inside i (bytes_at s p) p.start ≡ good tt)
 
-pub found_whole : (s : List ℕ) (f : Field) (at : ℕ) (p : Part) → at ≤ length s → field f (drop at s) at ≡ Found p → Whole s f p
+pub found_whole : (s : List ℕ) (f : Field) (at : ℕ) (p : Part) → at ≤ length s → field f (drop at s) at ≡ good p → Whole s f p
 found_whole s (Uint w) at p h e = tt
 found_whole s (OneOf w least most) at p h e = tt
 found_whole s (Fixed n) at p h e = tt
@@ -166,5 +163,5 @@ found_whole s (Vector w least most i) at p h e =
     let v = found_vector u least most i (drop at s) at p e in
     let n = unbe (take u (drop at s)) in
     let l : at + u + n ≤ length s = omega (arith, v.room, v.prefix, length-drop at s) in
-    let f : inside i (take n (drop (at + u) s)) (at + u) ≡ Fine = rw (drop-drop u at s) at v.fine in
+    let f : inside i (take n (drop (at + u) s)) (at + u) ≡ good tt = rw (drop-drop u at s) at v.fine in
     rw v.is (l, f)

@@ -7,7 +7,6 @@ use Rattle.fields.specs.declared.layout.Part.{Part}
 use Rattle.fields.specs.declared.layout.Inner.{Inner}
 use Rattle.fields.specs.declared.layout.Field.{Field}
 use Rattle.fields.specs.declared.layout.Field.TheVariants.{Uint, Vector, OneOf, Fixed}
-use Rattle.fields.specs.declared.layout.FieldRead.TheVariants.{Found, Bad}
 use Rattle.fields.specs.Checked.{Checked, good, bad}
 use Rattle.fields.specs.Layout.{inside, whole, field, read, parts_found, bytes_at}
 use Rattle.fields.specs.Write.{Value, uint, bytes, fill, laid, Filled, write, opened, values}
@@ -17,7 +16,7 @@ use Rattle.fields.specs.Path.{encoded, path_at, copy_path}
 -- one field that was found, filled with what was found there, is the same bytes
 abbrev pub ReadThenFilled : Type 0
 ReadThenFilled =
-    (f : Field) (s : List ℕ) (at : ℕ) (p : Part) → Bytes s → field f (drop at s) at ≡ Found p
+    (f : Field) (s : List ℕ) (at : ℕ) (p : Part) → Bytes s → field f (drop at s) at ≡ good p
     → (fill f (opened f p s) at ≡ good (take (p.start + p.len - at) (drop at s))) × (at ≤ p.start + p.len)
 
 -- a field and a value of its kind: a number that its bytes can hold; a prefix that can hold the vector's length
@@ -34,7 +33,7 @@ Typed (Fixed n) (bytes v) = Unit
 -- one field that was filled is found, whatever stands before it and behind it, with its value
 pub record Kept (f : Field) (v : Value) (front b rest : List ℕ) : Type 0 where
   pub place : Part
-  pub found : field f (b ++ rest) (length front) ≡ Found place
+  pub found : field f (b ++ rest) (length front) ≡ good place
   pub end : place.start + place.len ≡ length front + length b
   pub same : opened f place (front ++ (b ++ rest)) ≡ v
 
@@ -55,23 +54,23 @@ OneOfJudged =
     (w : Width) (least most n : ℕ) (rest : List ℕ) (at : ℕ)
     → (least ≤ n → n ≤ most
     → (fill (OneOf w least most) (uint n) at ≡ good (be (width_of w) n))
-    × (n < 256 ^ width_of w → field (OneOf w least most) (be (width_of w) n ++ rest) at ≡ Found (record { start = at; len = width_of w; value = n })))
+    × (n < 256 ^ width_of w → field (OneOf w least most) (be (width_of w) n ++ rest) at ≡ good (record { start = at; len = width_of w; value = n })))
     × ((least ≤ n → n ≤ most → ⊥)
     → (fill (OneOf w least most) (uint n) at ≡ bad 4 at)
-    × (n < 256 ^ width_of w → field (OneOf w least most) (be (width_of w) n ++ rest) at ≡ Bad 4 at))
+    × (n < 256 ^ width_of w → field (OneOf w least most) (be (width_of w) n ++ rest) at ≡ bad 4 at))
 
 -- bytes of a fixed length stand as they are, whatever comes behind them; others are 5 where they would start
 abbrev pub FixedAsIs : Type 0
 FixedAsIs =
     (n : ℕ) (b rest : List ℕ) (at : ℕ)
-    → (length b ≡ n → (field (Fixed n) (b ++ rest) at ≡ Found (record { start = at; len = n; value = n })) × (fill (Fixed n) (bytes b) at ≡ good b))
+    → (length b ≡ n → (field (Fixed n) (b ++ rest) at ≡ good (record { start = at; len = n; value = n })) × (fill (Fixed n) (bytes b) at ≡ good b))
     × (length b ≢ n → fill (Fixed n) (bytes b) at ≡ bad 5 at)
 
 -- where there are too few bytes for either, it is cut, whatever they are
 abbrev pub CutFirst : Type 0
 CutFirst =
     (w : Width) (least most n : ℕ) (r : List ℕ) (at : ℕ)
-    → (length r < width_of w → field (OneOf w least most) r at ≡ Bad 2 at) × (length r < n → field (Fixed n) r at ≡ Bad 2 at)
+    → (length r < width_of w → field (OneOf w least most) r at ≡ bad 2 at) × (length r < n → field (Fixed n) r at ≡ bad 2 at)
 
 -- over any layout: what is read, written again, is the same bytes
 abbrev pub LayoutAgain : Type 0
@@ -122,12 +121,12 @@ ReadInARow = (fs : List Field) (s : List ℕ) (at : ℕ) (ps : List Part) → at
 -- fields that are found one after the other, from a place up to another
 pub data Upto (s : List ℕ) : List Field → ℕ → ℕ → Type 0 where
   here : {at : ℕ} → Upto s [] at at
-  past : {f : Field} {fs : List Field} {at end : ℕ} (p : Part) → field f (drop at s) at ≡ Found p → Upto s fs (p.start + p.len) end → Upto s (f ∷ fs) at end
+  past : {f : Field} {fs : List Field} {at end : ℕ} (p : Part) → field f (drop at s) at ≡ good p → Upto s fs (p.start + p.len) end → Upto s (f ∷ fs) at end
 
 -- over any layout: left to right, the first bad field decides, with its own number and place, and bytes behind the last field are 3 where they start
 abbrev pub LeftToRight : Type 0
 LeftToRight =
-    ((fs gs : List Field) (f : Field) (s : List ℕ) (at end x y : ℕ) → Upto s fs at end → field f (drop end s) end ≡ Bad x y
+    ((fs gs : List Field) (f : Field) (s : List ℕ) (at end x y : ℕ) → Upto s fs at end → field f (drop end s) end ≡ bad x y
     → read (fs ++ (f ∷ gs)) s at ≡ bad x y)
     × ((fs : List Field) (s : List ℕ) (at end : ℕ) → Upto s fs at end → end < length s → read fs s at ≡ bad 3 end)
     × ((fs gs : List Filled) (f : Filled) (at x y : ℕ) (b : List ℕ) → write fs at ≡ good b → fill f.field f.value (at + length b) ≡ bad x y

@@ -1,20 +1,11 @@
 -- What a writer answers and leaves: how many bytes it wrote, or its refusal with the place, and what the lent bytes then hold. Assumes nothing.
 use Rattle.std.specs.Prelude.{ℕ, List, ◌++◌, cond, length, drop, ltb}
-use Rattle.fields.specs.declared.writing.Written.{Written}
-use Rattle.fields.specs.declared.writing.Written.TheVariants.{Length, Refused}
-use Rattle.fields.specs.declared.writing.Fill.{Fill}
-use Rattle.fields.specs.declared.writing.Fill.TheVariants.{Takes, Not}
 use Rattle.fields.specs.Checked.{Checked, good, bad}
 
--- what each case of a writer's answer says
-abbrev pub writing : Written → Checked ℕ
-writing (Length n) = good n
-writing (Refused number place) = bad number place
-
 -- how many bytes a field takes
-abbrev pub takes : Checked (List ℕ) → Fill
-takes (good b) = Takes (length b)
-takes (bad x at) = Not x at
+abbrev pub takes : Checked (List ℕ) → Checked ℕ
+takes (good b) = good (length b)
+takes (bad x at) = bad x at
 
 pub record Effect : Type 0 where
   pub answer : Checked ℕ

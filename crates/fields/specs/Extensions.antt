@@ -10,8 +10,6 @@ use Rattle.fields.specs.declared.layout.Inner.{Inner}
 use Rattle.fields.specs.declared.layout.Inner.TheVariants.{Opaque, ExtensionList, NodeList}
 use Rattle.fields.specs.declared.layout.Field.{Field}
 use Rattle.fields.specs.declared.layout.Field.TheVariants.{Uint, Vector, OneOf, Fixed}
-use Rattle.fields.specs.declared.layout.FieldRead.TheVariants.{Bad}
-use Rattle.fields.specs.declared.layout.Inside.TheVariants.{Fine, Wrong}
 use Rattle.fields.specs.Checked.{Checked, good, bad}
 use Rattle.fields.specs.Layout.{inside, field, read, parts_found, bytes_at}
 use Rattle.fields.specs.Write.{bytes, fill, laid, Filled, write}
@@ -51,7 +49,7 @@ pub record Extended (o : Order) (b : List ℕ) : Type 0 where
 
 -- a body is fine exactly if it is some extensions in the order that is asked, and it is those of one list alone
 abbrev pub FineIsExtended : Type 0
-FineIsExtended = (o : Order) (b : List ℕ) (at : ℕ) → Bytes b → (inside (ExtensionList o) b at ≡ Fine) ↔ Extended o b
+FineIsExtended = (o : Order) (b : List ℕ) (at : ℕ) → Bytes b → (inside (ExtensionList o) b at ≡ good tt) ↔ Extended o b
 
 abbrev pub OneList : Type 0
 OneList = (xs ys : List Extension) → Each Fits xs → Each Fits ys → list_bytes xs ≡ list_bytes ys → xs ≡ ys
@@ -69,7 +67,7 @@ pub record OutOfOrder (b : List ℕ) (at place : ℕ) : Type 0 where
 
 -- 15 is given exactly there, whatever comes behind that extension
 abbrev pub FifteenIsOutOfOrder : Type 0
-FifteenIsOutOfOrder = (b : List ℕ) (at place : ℕ) → Bytes b → (inside (ExtensionList Ordered) b at ≡ Wrong 15 place) ↔ OutOfOrder b at place
+FifteenIsOutOfOrder = (b : List ℕ) (at place : ℕ) → Bytes b → (inside (ExtensionList Ordered) b at ≡ bad 15 place) ↔ OutOfOrder b at place
 
 -- the older rule: the same fields, and no order asked
 abbrev pub any_order : Inner → Inner
@@ -141,7 +139,7 @@ abbrev pub RefusedAsRead : Type 0
 RefusedAsRead =
     (w : Width) (least most : ℕ) (o : Order) (v rest : List ℕ) (at x y : ℕ) → length v < 256 ^ width_of w
     → (fill (Vector w least most (ExtensionList o)) (bytes v) at ≡ bad x y)
-    ↔ (field (Vector w least most (ExtensionList o)) (laid (Vector w least most (ExtensionList o)) (bytes v) ++ rest) at ≡ Bad x y)
+    ↔ (field (Vector w least most (ExtensionList o)) (laid (Vector w least most (ExtensionList o)) (bytes v) ++ rest) at ≡ bad x y)
 
 -- the bytes of all fields, each as it is laid out, whether its value is refused or not
 abbrev pub all_laid : List Filled → List ℕ

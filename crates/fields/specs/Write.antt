@@ -1,13 +1,12 @@
 -- Writing by a layout: each field is filled with a value, and refused where it would start. Assumes nothing.
-use Rattle.std.specs.Prelude.{ℕ, zero, suc, ◌+◌, ◌*◌, ◌/◌, ◌%◌, List, [], ◌∷◌, ◌++◌, Bool, true, cond, length, get_or, take, drop, ltb, eqb}
+use Rattle.std.specs.Prelude.{ℕ, zero, suc, ◌+◌, ◌*◌, ◌/◌, ◌%◌, List, [], ◌∷◌, ◌++◌, Bool, true, map, cond, length, get_or, take, drop, ltb, eqb}
+use Rattle.std.specs.Borrow.{Bor}
 use Rattle.octets.specs.Numbers.{width_of, be}
 use Rattle.fields.specs.declared.layout.Part.{Part}
 use Rattle.fields.specs.declared.layout.Inner.{Inner}
 use Rattle.fields.specs.declared.layout.Inner.TheVariants.{Opaque, ExtensionList, NodeList}
 use Rattle.fields.specs.declared.layout.Field.{Field}
 use Rattle.fields.specs.declared.layout.Field.TheVariants.{Uint, Vector, OneOf, Fixed}
-use Rattle.fields.specs.declared.layout.Inside.{Inside}
-use Rattle.fields.specs.declared.layout.Inside.TheVariants.{Fine, Wrong}
 use Rattle.fields.specs.Checked.{Checked, good, bad, then}
 use Rattle.fields.specs.Layout.{inside, allowed, bytes_at}
 
@@ -56,9 +55,9 @@ wholes Opaque n = true
 wholes (ExtensionList o) n = true
 wholes NodeList n = eqb (n % 32) 0
 
-abbrev pub fine : Inside → List ℕ → Checked (List ℕ)
-fine Fine b = good b
-fine (Wrong x at) b = bad x at
+abbrev pub fine : Checked Unit → List ℕ → Checked (List ℕ)
+fine (good u) b = good b
+fine (bad x at) b = bad x at
 
 -- what a vector is laid out as: its body's length in w bytes, then the body
 abbrev pub vector_bytes : ℕ → Inner → List ℕ → List ℕ
@@ -114,9 +113,9 @@ unfoldable pub write : List Filled → ℕ → Checked (List ℕ)
 write [] at = good []
 write (f ∷ fs) at = then (fill f.field f.value at) (λ b. join b (write fs (at + length b)))
 
--- the bytes that the fields of a layout are filled with, by their places
-abbrev pub eight : List ℕ → List ℕ → List ℕ → List ℕ → List ℕ → List ℕ → List ℕ → List ℕ → List (List ℕ)
-eight a b c d e f g h = a ∷ b ∷ c ∷ d ∷ e ∷ f ∷ g ∷ h ∷ []
+-- the bytes behind some references, in their order
+abbrev pub behind : List (Bor (List ℕ)) → List (List ℕ)
+behind vs = map (λ (v : Bor (List ℕ)). v.now) vs
 
 -- the fields of a layout, each with the number and the bytes of its place
 abbrev pub filled_by : List Field → List ℕ → List (List ℕ) → List Filled

@@ -1,98 +1,55 @@
 // Writing all fields of a layout: a first pass over them measures or refuses, a second one puts them.
-ghost use Rattle.std.specs.Prelude.{◌≡◌, [], ◌≤◌, ◌<◌, length, get_or, take};
+ghost use Rattle.std.specs.Prelude.{◌≡◌, ◌≤◌, length, take};
 ghost use Rattle.octets.specs.Bytes.{put};
-ghost use Rattle.fields.specs.Write.{write as write_fields, eight, filled_by};
-ghost use Rattle.fields.specs.Effect.{writing, within, effect};
+ghost use Rattle.fields.specs.Checked.{checked};
+ghost use Rattle.fields.specs.Write.{write as write_fields, behind, filled_by};
+ghost use Rattle.fields.specs.Effect.{within, effect};
 ghost use Rattle.fields.specs.Inner.{ends, reached, written, Good};
 
-use crate::layout::Field;
+use crate::layout::{Field, RefusedAt};
 use crate::reading::{MOST_FIELDS, counted};
-use crate::writing::{Fill, Written, check_field, put_field};
+use crate::writing::{check_field, put_field};
+use octets::refusal::Refusal;
 
 // No buffer is longer, and nothing past it has a place.
 const LONGEST: usize = 9223372036854775807;
 
-// The bytes of a field by its place in the layout.
-fn bytes_at<'a>(
-    i: usize,
-    a: &'a [u8],
-    b: &'a [u8],
-    c: &'a [u8],
-    d: &'a [u8],
-    e: &'a [u8],
-    f: &'a [u8],
-    g: &'a [u8],
-    h: &'a [u8],
-) -> &'a [u8]
-    requires { i < 8 }
-    ensures { let vs = eight a.now b.now c.now d.now
-        e.now f.now g.now h.now in
-        result.now ≡ get_or vs i [] }
-{
-    match i {
-        0 => a,
-        1 => b,
-        2 => c,
-        3 => d,
-        4 => e,
-        5 => f,
-        6 => g,
-        _ => h,
-    }
-}
+const NO_ROOM: RefusedAt = RefusedAt {
+    refusal: Refusal::NoRoom,
+    place: 0,
+};
 
 // The first pass: where the fields end, or their first refusal.
 fn measure<'a>(
     layout: [Field; MOST_FIELDS],
     n: usize,
     numbers: [u64; MOST_FIELDS],
-    a: &'a [u8],
-    b: &'a [u8],
-    c: &'a [u8],
-    d: &'a [u8],
-    e: &'a [u8],
-    f: &'a [u8],
-    g: &'a [u8],
-    h: &'a [u8],
-) -> Fill
+    values: [&'a [u8]; MOST_FIELDS],
+) -> Result<usize, RefusedAt>
     requires { n ≤ 8 }
-    ensures { let vs = eight a.now b.now c.now d.now
-        e.now f.now g.now h.now in
-        result ≡ reached (ends 0 (write_fields (filled_by (take n layout) numbers vs) 0)) }
+    ensures { checked result ≡ reached (ends 0 (write_fields (filled_by (take n layout) numbers (behind values.entry)) 0)) }
 {
     let mut at: usize = 0;
-    let mut i: usize = 0;
-    while i < n {
-        let kind = layout[i];
-        let x = numbers[i];
-        let v = bytes_at(i, a, b, c, d, e, f, g, h);
-        let told = check_field(x, v, kind);
-        match told {
-            Fill::Not { number, place } => {
-                if LONGEST - at < place {
-                    return Fill::Not {
-                        number: 9,
-                        place: 0,
-                    };
+    for i in 0..n {
+        match check_field(numbers[i], values[i], layout[i]) {
+            Err(e) => {
+                if LONGEST - at < e.place {
+                    return Err(NO_ROOM);
                 }
-                return Fill::Not {
-                    number,
-                    place: at + place,
-                };
+                return Err(RefusedAt {
+                    refusal: e.refusal,
+                    place: at + e.place,
+                });
             }
-            Fill::Takes(m) => {
+            Ok(m) => {
                 if LONGEST - at < m {
-                    return Fill::Not {
-                        number: 9,
-                        place: 0,
-                    };
+                    return Err(NO_ROOM);
                 }
-                at = at + m;
+                at += m;
             }
         }
-        i += 1;
     }
-    Fill::Takes(at)
+    Ok(at)
 }
 
 // The second pass.
@@ -101,68 +58,36 @@ fn put_all<'a>(
     layout: [Field; MOST_FIELDS],
     n: usize,
     numbers: [u64; MOST_FIELDS],
-    a: &'a [u8],
-    b: &'a [u8],
-    c: &'a [u8],
-    d: &'a [u8],
-    e: &'a [u8],
-    f: &'a [u8],
-    g: &'a [u8],
-    h: &'a [u8],
+    values: [&'a [u8]; MOST_FIELDS],
 )
-    requires { let vs = eight a.now b.now c.now d.now e.now f.now g.now h.now in
-        let w = write_fields (filled_by (take n layout) numbers vs) 0 in
+    requires { let w = write_fields (filled_by (take n layout) numbers (behind values)) 0 in
         (n ≤ 8) × Good w × (length (written w) ≤ length out.old) }
-    ensures { let vs = eight a.now b.now c.now d.now
-        e.now f.now g.now h.now in
-        out.new ≡ put out.old 0 (written (write_fields (filled_by (take n layout) numbers vs) 0)) }
+    ensures { out.new ≡ put out.old 0 (written (write_fields (filled_by (take n layout) numbers (behind values.entry)) 0)) }
 {
     let mut at: usize = 0;
-    let mut i: usize = 0;
-    while i < n {
-        let kind = layout[i];
-        let x = numbers[i];
-        let v = bytes_at(i, a, b, c, d, e, f, g, h);
-        let m = put_field(out, at, kind, x, v);
-        at = at + m;
-        i += 1;
+    for i in 0..n {
+        let m = put_field(out, at, layout[i], numbers[i], values[i]);
+        at += m;
     }
 }
 
-// Writes the first `count` fields of a layout to the start of a lent buffer; a count above the most is the most. Field i is filled with number i or with the
-// bytes of place i, and the one that its kind has no use for is not looked at. Its first bad field is refused where it would start, then 9 at 0.
+// Writes the first `count` fields of a layout to the start of a lent buffer; a count above the most is the most. Field i is filled with number i or with
+// value i, and the one that its kind has no use for is not looked at. Its first bad field is refused where it would start, then 9 at 0.
 pub fn write_layout<'a>(
     layout: [Field; MOST_FIELDS],
     count: usize,
     numbers: [u64; MOST_FIELDS],
-    a: &'a [u8],
-    b: &'a [u8],
-    c: &'a [u8],
-    d: &'a [u8],
-    e: &'a [u8],
-    f: &'a [u8],
-    g: &'a [u8],
-    h: &'a [u8],
+    values: [&'a [u8]; MOST_FIELDS],
     out: &mut [u8],
-) -> Written
-    ensures { let vs = eight a.now b.now c.now d.now
-        e.now f.now g.now h.now in
-        let o = effect out.old (within (write_fields (filled_by (take count layout) numbers vs) 0)) in
-        (writing result ≡ o.answer) × (out.new ≡ o.bytes) }
+) -> Result<usize, RefusedAt>
+    ensures { let o = effect out.old (within (write_fields (filled_by (take count layout) numbers (behind values.entry)) 0)) in
+        (checked result ≡ o.answer) × (out.new ≡ o.bytes) }
 {
     let n = counted(count);
-    let measured = measure(layout, n, numbers, a, b, c, d, e, f, g, h);
-    match measured {
-        Fill::Not { number, place } => Written::Refused { number, place },
-        Fill::Takes(end) => {
-            if out.len() < end {
-                return Written::Refused {
-                    number: 9,
-                    place: 0,
-                };
-            }
-            put_all(out, layout, n, numbers, a, b, c, d, e, f, g, h);
-            Written::Length(end)
-        }
+    let end = measure(layout, n, numbers, values)?;
+    if out.len() < end {
+        return Err(NO_ROOM);
     }
+    put_all(out, layout, n, numbers, values);
+    Ok(end)
 }

@@ -1,9 +1,12 @@
 // The kinds of field that a layout is made of, and the reading of one field.
-ghost use Rattle.std.specs.Prelude.{◌≡◌, ◌-◌, ◌<◌, ◌≤◌, length, drop};
+ghost use Rattle.std.specs.Prelude.{◌≡◌, ◌<◌, ◌≤◌, length, drop};
 ghost use Rattle.octets.specs.Numbers.{width_of};
+ghost use Rattle.octets.specs.Refusals.{answered};
+ghost use Rattle.fields.specs.Checked.{checked};
 ghost use Rattle.fields.specs.Layout.{out_of_order, element, inside, number_at, vector_at, allowed, one_of_at, fixed_at, field};
 ghost use Rattle.fields.specs.Inner.{part};
 
+use octets::refusal::Refusal;
 use octets::{Width, number_at, width_of};
 
 // Where a field lies, past its length prefix if it has one, and the number read there: a number's value, a vector's length, that of fixed bytes.
@@ -48,23 +51,18 @@ pub enum Field {
     Fixed(usize),
 }
 
-#[derive(Clone, Copy)]
-pub enum FieldRead {
-    Found(Part),
-    Bad { number: u32, place: usize },
+// Why something is refused, and where.
+#[derive(Clone, Copy, PartialEq, Eq)]
+pub struct RefusedAt {
+    pub refusal: Refusal,
+    pub place: usize,
 }
 
-// The first element of a body: its size, and what the next element must know of it; or the number of its refusal.
+// The first element of a body: its size, and what the next element must know of it.
 #[derive(Clone, Copy)]
-pub enum Step {
-    Size { len: usize, next: usize },
-    Not(u32),
-}
-
-#[derive(Clone, Copy)]
-pub enum Inside {
-    Fine,
-    Wrong { number: u32, place: usize },
+pub struct Element {
+    pub len: usize,
+    pub next: usize,
 }
 
 // `last` is one more than the type before, 0 at the first.
@@ -77,83 +75,89 @@ fn is_out_of_order(order: Order, last: usize, kind: usize) -> bool
     }
 }
 
-fn first_extension(s: &[u8], at: usize, end: usize, order: Order, last: usize) -> Step
+fn first_extension(
+    s: &[u8],
+    at: usize,
+    end: usize,
+    order: Order,
+    last: usize,
+) -> Result<Element, Refusal>
     requires { (at < end) × (end ≤ length s.now) }
-    ensures { result ≡ element (Inner.ExtensionList order) last (part s.now at end) }
+    ensures { answered result ≡ element (Inner.ExtensionList order) last (part s.now at end) }
 {
     let room = end - at;
     if room < 4 {
-        return Step::Not(2);
+        return Err(Refusal::CutShort);
     }
     let n = number_at(s, at + 2, Width::Two) as usize;
     if room - 4 < n {
-        return Step::Not(2);
+        return Err(Refusal::CutShort);
     }
     let kind = number_at(s, at, Width::Two) as usize;
     let wrong = is_out_of_order(order, last, kind);
     if wrong {
-        return Step::Not(15);
+        return Err(Refusal::OutOfOrder);
     }
     let len = 4 + n;
     let next = kind + 1;
-    Step::Size { len, next }
+    Ok(Element { len, next })
 }
 
-fn first_node(s: &[u8], at: usize, end: usize) -> Step
+fn first_node(s: &[u8], at: usize, end: usize) -> Result<Element, Refusal>
     requires { (at < end) × (end ≤ length s.now) }
-    ensures { result ≡ element Inner.NodeList 0 (part s.now at end) }
+    ensures { answered result ≡ element Inner.NodeList 0 (part s.now at end) }
 {
     if s[at] != 32 {
-        return Step::Not(5);
+        return Err(Refusal::Length);
     }
     if end - at < 33 {
-        return Step::Not(2);
+        return Err(Refusal::CutShort);
     }
-    Step::Size { len: 33, next: 0 }
+    Ok(Element { len: 33, next: 0 })
 }
 
-fn first_element(s: &[u8], at: usize, end: usize, inner: Inner, last: usize) -> Step
+fn first_element(
+    s: &[u8],
+    at: usize,
+    end: usize,
+    inner: Inner,
+    last: usize,
+) -> Result<Element, Refusal>
     requires { (at < end) × (end ≤ length s.now) }
-    ensures { result ≡ element inner last (part s.now at end) }
+    ensures { answered result ≡ element inner last (part s.now at end) }
 {
-    let room = end - at;
     match inner {
-        Inner::Opaque => Step::Size { len: room, next: 0 },
+        Inner::Opaque => Ok(Element {
+            len: end - at,
+            next: 0,
+        }),
         Inner::ExtensionList(order) => first_extension(s, at, end, order, last),
         Inner::NodeList => first_node(s, at, end),
     }
 }
 
 // The elements of a body.
-pub(crate) fn check_inside(s: &[u8], start: usize, end: usize, inner: Inner) -> Inside
+pub(crate) fn check_inside(
+    s: &[u8],
+    start: usize,
+    end: usize,
+    inner: Inner,
+) -> Result<(), RefusedAt>
     requires { (start ≤ end) × (end ≤ length s.now) }
-    ensures { result ≡ inside inner (part s.now start end) start }
+    ensures { checked result ≡ inside inner (part s.now start end) start }
 {
     let mut at = start;
     let mut last: usize = 0;
     while at < end {
-        let e = first_element(s, at, end, inner, last);
-        match e {
-            Step::Not(number) => {
-                return Inside::Wrong { number, place: at };
-            }
-            Step::Size { len, next } => {
-                at = at + len;
-                last = next;
+        match first_element(s, at, end, inner, last) {
+            Err(refusal) => return Err(RefusedAt { refusal, place: at }),
+            Ok(e) => {
+                at += e.len;
+                last = e.next;
             }
         }
     }
-    Inside::Fine
-}
-
-// How many bytes a buffer of a size has from a place on.
-pub(crate) fn left_of(size: usize, at: usize) -> usize
-    ensures { result ≡ size - at }
-{
-    if size < at {
-        return 0;
-    }
-    size - at
+    Ok(())
 }
 
 fn read_vector(
@@ -163,62 +167,53 @@ fn read_vector(
     least: usize,
     most: usize,
     inner: Inner,
-) -> FieldRead
-    ensures { result ≡ vector_at (width_of width) least most inner (drop at s.now) at }
+) -> Result<Part, RefusedAt>
+    ensures { checked result ≡ vector_at (width_of width) least most inner (drop at s.now) at }
 {
-    let left = left_of(s.len(), at);
+    let left = s.len().saturating_sub(at);
     let w = width_of(width);
     if left < w {
-        return FieldRead::Bad {
-            number: 2,
+        return Err(RefusedAt {
+            refusal: Refusal::CutShort,
             place: at,
-        };
+        });
     }
     let value = number_at(s, at, width);
     let n = value as usize;
-    if n < least {
-        return FieldRead::Bad {
-            number: 5,
+    if n < least || most < n {
+        return Err(RefusedAt {
+            refusal: Refusal::Length,
             place: at,
-        };
-    }
-    if most < n {
-        return FieldRead::Bad {
-            number: 5,
-            place: at,
-        };
+        });
     }
     let start = at + w;
     if left - w < n {
-        return FieldRead::Bad {
-            number: 2,
+        return Err(RefusedAt {
+            refusal: Refusal::CutShort,
             place: at,
-        };
+        });
     }
-    let c = check_inside(s, start, start + n, inner);
-    match c {
-        Inside::Wrong { number, place } => FieldRead::Bad { number, place },
-        Inside::Fine => FieldRead::Found(Part {
-            start,
-            len: n,
-            value,
-        }),
-    }
+    check_inside(s, start, start + n, inner)?;
+    Ok(Part {
+        start,
+        len: n,
+        value,
+    })
 }
 
-fn read_uint(s: &[u8], at: usize, width: Width) -> FieldRead
-    ensures { result ≡ number_at (width_of width) (drop at s.now) at }
+fn read_uint(s: &[u8], at: usize, width: Width) -> Result<Part, RefusedAt>
+    ensures { checked result ≡ number_at (width_of width) (drop at s.now) at }
 {
-    let left = left_of(s.len(), at);
+    let left = s.len().saturating_sub(at);
     let w = width_of(width);
     if left < w {
-        return FieldRead::Bad {
-            number: 2,
+        return Err(RefusedAt {
+            refusal: Refusal::CutShort,
             place: at,
-        };
+        });
     }
     let value = number_at(s, at, width);
-    FieldRead::Found(Part {
+    Ok(Part {
         start: at,
         len: w,
         value,
@@ -229,42 +224,32 @@ fn read_uint(s: &[u8], at: usize, width: Width) -> FieldRead
 pub(crate) fn is_allowed(n: u64, least: u64, most: u64) -> bool
     ensures { result ≡ allowed least most n }
 {
-    if n < least {
-        return false;
-    }
-    n <= most
+    least <= n && n <= most
 }
 
-fn read_one_of(s: &[u8], at: usize, width: Width, least: u64, most: u64) -> FieldRead
-    ensures { result ≡ one_of_at (width_of width) least most (drop at s.now) at }
+fn read_one_of(s: &[u8], at: usize, width: Width, least: u64, most: u64) -> Result<Part, RefusedAt>
+    ensures { checked result ≡ one_of_at (width_of width) least most (drop at s.now) at }
 {
-    let r = read_uint(s, at, width);
-    match r {
-        FieldRead::Bad { number, place } => FieldRead::Bad { number, place },
-        FieldRead::Found(p) => {
-            let fine = is_allowed(p.value, least, most);
-            if fine {
-                return FieldRead::Found(p);
-            }
-            FieldRead::Bad {
-                number: 4,
-                place: p.start,
-            }
-        }
+    let p = read_uint(s, at, width)?;
+    if !is_allowed(p.value, least, most) {
+        return Err(RefusedAt {
+            refusal: Refusal::UnknownType,
+            place: p.start,
+        });
     }
+    Ok(p)
 }
 
-fn read_fixed(s: &[u8], at: usize, n: usize) -> FieldRead
-    ensures { result ≡ fixed_at n (drop at s.now) at }
+fn read_fixed(s: &[u8], at: usize, n: usize) -> Result<Part, RefusedAt>
+    ensures { checked result ≡ fixed_at n (drop at s.now) at }
 {
-    let left = left_of(s.len(), at);
-    if left < n {
-        return FieldRead::Bad {
-            number: 2,
+    if s.len().saturating_sub(at) < n {
+        return Err(RefusedAt {
+            refusal: Refusal::CutShort,
             place: at,
-        };
+        });
     }
-    FieldRead::Found(Part {
+    Ok(Part {
         start: at,
         len: n,
         value: n as u64,
@@ -272,8 +257,8 @@ fn read_fixed(s: &[u8], at: usize, n: usize) -> FieldRead
 }
 
 // The field that starts at a place. Past the end of the bytes every field is cut short.
-pub fn read_field(s: &[u8], at: usize, f: Field) -> FieldRead
-    ensures { result ≡ field f (drop at s.now) at }
+pub fn read_field(s: &[u8], at: usize, f: Field) -> Result<Part, RefusedAt>
+    ensures { checked result ≡ field f (drop at s.now) at }
 {
     match f {
         Field::Uint(width) => read_uint(s, at, width),

@@ -1,60 +1,48 @@
 // A path that was read lies in its item as elements of 33 bytes; the verdicts take its hashes joined.
 ghost use Rattle.std.specs.Prelude.{◌≡◌, ◌+◌, ◌*◌, ◌≤◌, length, drop};
 ghost use Rattle.octets.specs.Bytes.{put as put_bytes};
+ghost use Rattle.fields.specs.Checked.{checked};
 ghost use Rattle.fields.specs.Write.{stripped};
-ghost use Rattle.fields.specs.Effect.{writing};
 ghost use Rattle.fields.specs.Path.{copy_path};
 
-use crate::layout::{Inner, Inside, Part, check_inside};
-use crate::writing::{Written, hash_at};
+use crate::layout::{Inner, Part, RefusedAt, check_inside};
+use crate::writing::hash_at;
 use octets::put;
+use octets::refusal::Refusal;
 
 // The hashes of n elements that start at a place.
 fn join_nodes(out: &mut [u8], s: &[u8], start: usize, n: usize)
     requires { (start + n * 33 ≤ length s.now) × (n * 32 ≤ length out.old) }
     ensures { out.new ≡ put_bytes out.old 0 (stripped n (drop start s.now)) }
 {
-    let mut k: usize = 0;
-    while k < n {
+    for k in 0..n {
         let h = hash_at(s, start + k * 33 + 1);
         put(out, k * 32, &h);
-        k += 1;
     }
 }
 
 // Copies a path's hashes, joined, to the start of a lent buffer. Any part may be given: one that does not lie in the bytes is cut short, one that does
 // is refused at its first bad element as the reader would refuse it, and only then is the buffer's length asked.
-pub fn path_into(s: &[u8], part: Part, out: &mut [u8]) -> Written
+pub fn path_into(s: &[u8], part: Part, out: &mut [u8]) -> Result<usize, RefusedAt>
     ensures { let e = copy_path s.now part out.old in
-        (writing result ≡ e.answer) × (out.new ≡ e.bytes) }
+        (checked result ≡ e.answer) × (out.new ≡ e.bytes) }
 {
     let start = part.start;
     let len = part.len;
-    if s.len() < start {
-        return Written::Refused {
-            number: 2,
+    if s.len() < start || s.len() - start < len {
+        return Err(RefusedAt {
+            refusal: Refusal::CutShort,
             place: start,
-        };
+        });
     }
-    if s.len() - start < len {
-        return Written::Refused {
-            number: 2,
-            place: start,
-        };
+    check_inside(s, start, start + len, Inner::NodeList)?;
+    let n = len / 33;
+    if out.len() < n * 32 {
+        return Err(RefusedAt {
+            refusal: Refusal::NoRoom,
+            place: 0,
+        });
     }
-    let c = check_inside(s, start, start + len, Inner::NodeList);
-    match c {
-        Inside::Wrong { number, place } => Written::Refused { number, place },
-        Inside::Fine => {
-            let n = len / 33;
-            if out.len() < n * 32 {
-                return Written::Refused {
-                    number: 9,
-                    place: 0,
-                };
-            }
-            join_nodes(out, s, start, n);
-            Written::Length(n * 32)
-        }
-    }
+    join_nodes(out, s, start, n);
+    Ok(n * 32)
 }

@@ -2,26 +2,14 @@
 ghost use Rattle.std.specs.Prelude.{◌≡◌, true, ◌+◌, ◌*◌, ◌/◌, ◌^◌, ◌<◌, ◌≤◌, length, take, drop};
 ghost use Rattle.octets.specs.Bytes.{put as put_bytes, put_within};
 ghost use Rattle.octets.specs.Numbers.{width_of};
+ghost use Rattle.fields.specs.Checked.{checked};
 ghost use Rattle.fields.specs.Layout.{inside};
 ghost use Rattle.fields.specs.Write.{wrap, body_size, wholes, prefixed, vector_bytes, vector_filled, one_of_filled, fixed_filled, fill, laid, held};
 ghost use Rattle.fields.specs.Effect.{takes};
 
-use crate::layout::{Field, Inner, Inside, check_inside, is_allowed, left_of};
+use crate::layout::{Field, Inner, RefusedAt, check_inside, is_allowed};
+use octets::refusal::Refusal;
 use octets::{Width, put, put_number, width_of};
-
-// How many bytes were written; or the number and the place of a refusal.
-#[derive(Clone, Copy)]
-pub enum Written {
-    Length(usize),
-    Refused { number: u32, place: usize },
-}
-
-// How many bytes a field takes; or a refusal, its place counted from the field's start.
-#[derive(Clone, Copy)]
-pub enum Fill {
-    Takes(usize),
-    Not { number: u32, place: usize },
-}
 
 // The length of the body that a value of n bytes needs.
 fn body_size(inner: Inner, n: usize) -> usize
@@ -29,9 +17,8 @@ fn body_size(inner: Inner, n: usize) -> usize
     ensures { (result ≡ body_size inner n) × (result < 2 ^ 63 + 2 ^ 60) }
 {
     match inner {
-        Inner::Opaque => n,
-        Inner::ExtensionList(_) => n,
-        Inner::NodeList => (n + 31) / 32 * 33,
+        Inner::Opaque | Inner::ExtensionList(_) => n,
+        Inner::NodeList => n.div_ceil(32) * 33,
     }
 }
 
@@ -39,94 +26,87 @@ fn is_whole(inner: Inner, n: usize) -> bool
     ensures { result ≡ wholes inner n }
 {
     match inner {
-        Inner::Opaque => true,
-        Inner::ExtensionList(_) => true,
+        Inner::Opaque | Inner::ExtensionList(_) => true,
         Inner::NodeList => n % 32 == 0,
     }
 }
 
 // The elements of a value's body, their places counted from its start. Hashes that are whole are always fine.
-fn value_inside(v: &[u8], inner: Inner) -> Inside
+fn value_inside(v: &[u8], inner: Inner) -> Result<(), RefusedAt>
     requires { wholes inner (length v.now) ≡ true }
-    ensures { result ≡ inside inner (wrap inner v.now) 0 }
+    ensures { checked result ≡ inside inner (wrap inner v.now) 0 }
 {
     match inner {
-        Inner::Opaque => Inside::Fine,
         Inner::ExtensionList(_) => check_inside(v, 0, v.len(), inner),
-        Inner::NodeList => Inside::Fine,
+        Inner::Opaque | Inner::NodeList => Ok(()),
     }
 }
 
-fn check_vector(v: &[u8], width: Width, least: usize, most: usize, inner: Inner) -> Fill
-    ensures { result ≡ takes (vector_filled (width_of width) least most inner v.now 0) }
+// How many bytes a field takes; or a refusal, its place counted from the field's start.
+fn check_vector(
+    v: &[u8],
+    width: Width,
+    least: usize,
+    most: usize,
+    inner: Inner,
+) -> Result<usize, RefusedAt>
+    ensures { checked result ≡ takes (vector_filled (width_of width) least most inner v.now 0) }
 {
     let n = v.len();
     let m = body_size(inner, n);
-    if m < least {
-        return Fill::Not {
-            number: 5,
+    if m < least || most < m {
+        return Err(RefusedAt {
+            refusal: Refusal::Length,
             place: 0,
-        };
+        });
     }
-    if most < m {
-        return Fill::Not {
-            number: 5,
+    let round = is_whole(inner, n);
+    if !round {
+        return Err(RefusedAt {
+            refusal: Refusal::Joined,
             place: 0,
-        };
+        });
     }
     let w = width_of(width);
-    let round = is_whole(inner, n);
-    if round {
-        let c = value_inside(v, inner);
-        match c {
-            Inside::Wrong { number, place } => {
-                return Fill::Not {
-                    number,
-                    place: w + place,
-                };
-            }
-            Inside::Fine => {
-                return Fill::Takes(w + m);
-            }
-        }
-    }
-    Fill::Not {
-        number: 10,
-        place: 0,
+    match value_inside(v, inner) {
+        Err(e) => Err(RefusedAt {
+            refusal: e.refusal,
+            place: w + e.place,
+        }),
+        Ok(()) => Ok(w + m),
     }
 }
 
-fn check_one_of(n: u64, width: Width, least: u64, most: u64) -> Fill
-    ensures { result ≡ takes (one_of_filled (width_of width) least most n 0) }
+fn check_one_of(n: u64, width: Width, least: u64, most: u64) -> Result<usize, RefusedAt>
+    ensures { checked result ≡ takes (one_of_filled (width_of width) least most n 0) }
 {
-    let fine = is_allowed(n, least, most);
-    if fine {
-        return Fill::Takes(width_of(width));
+    if !is_allowed(n, least, most) {
+        return Err(RefusedAt {
+            refusal: Refusal::UnknownType,
+            place: 0,
+        });
     }
-    Fill::Not {
-        number: 4,
-        place: 0,
-    }
+    Ok(width_of(width))
 }
 
-fn check_fixed(v: &[u8], n: usize) -> Fill
-    ensures { result ≡ takes (fixed_filled n v.now 0) }
+fn check_fixed(v: &[u8], n: usize) -> Result<usize, RefusedAt>
+    ensures { checked result ≡ takes (fixed_filled n v.now 0) }
 {
     if v.len() != n {
-        return Fill::Not {
-            number: 5,
+        return Err(RefusedAt {
+            refusal: Refusal::Length,
             place: 0,
-        };
+        });
     }
-    Fill::Takes(n)
+    Ok(n)
 }
 
 // What a field takes that is filled with a number or with some bytes, or why it is refused. The one that its kind has no use for is not looked at.
-pub fn check_field(n: u64, v: &[u8], f: Field) -> Fill
-    ensures { result ≡ takes (fill f (held f n v.now) 0) }
+pub fn check_field(n: u64, v: &[u8], f: Field) -> Result<usize, RefusedAt>
+    ensures { checked result ≡ takes (fill f (held f n v.now) 0) }
 {
     match f {
-        Field::Uint(width) => Fill::Takes(width_of(width)),
+        Field::Uint(width) => Ok(width_of(width)),
         Field::Vector {
             width,
             least,
@@ -154,14 +134,11 @@ fn put_nodes(out: &mut [u8], at: usize, v: &[u8])
     ensures { out.new ≡ put_bytes out.old at (prefixed (length v.now / 32) v.now) }
 {
     let n = v.len() / 32;
-    let mut k: usize = 0;
-    while k < n {
-        let j = k * 32;
+    for k in 0..n {
         let p = at + k * 33;
         out[p] = 32;
-        let h = hash_at(v, j);
+        let h = hash_at(v, k * 32);
         put(out, p + 1, &h);
-        k += 1;
     }
 }
 
@@ -171,8 +148,7 @@ fn wrapped_size(inner: Inner, n: usize) -> usize
     ensures { ((v : _) → length v ≡ n → result ≡ length (wrap inner v)) × (result < 2 ^ 63 + 2 ^ 60) }
 {
     match inner {
-        Inner::Opaque => n,
-        Inner::ExtensionList(_) => n,
+        Inner::Opaque | Inner::ExtensionList(_) => n,
         Inner::NodeList => n / 32 * 33,
     }
 }
@@ -182,8 +158,7 @@ fn put_body(out: &mut [u8], at: usize, v: &[u8], inner: Inner)
     ensures { out.new ≡ put_bytes out.old at (wrap inner v.now) }
 {
     match inner {
-        Inner::Opaque => put(out, at, v),
-        Inner::ExtensionList(_) => put(out, at, v),
+        Inner::Opaque | Inner::ExtensionList(_) => put(out, at, v),
         Inner::NodeList => put_nodes(out, at, v),
     }
 }
@@ -194,7 +169,7 @@ fn put_vector(out: &mut [u8], at: usize, v: &[u8], width: Width, inner: Inner) -
 {
     let m = wrapped_size(inner, v.len());
     let w = width_of(width);
-    let left = left_of(out.len(), at);
+    let left = out.len().saturating_sub(at);
     if left < w + m {
         return w + m;
     }

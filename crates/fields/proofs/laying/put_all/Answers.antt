@@ -1,4 +1,4 @@
-use mathlib.Core.Path.{◌≡◌, refl, ap, sym, ◌∙◌}
+use mathlib.Core.Path.{◌≡◌, ap, sym, ◌∙◌}
 use mathlib.Core.List.{List, []}
 use Prim.Native.Nat.{ℕ, ◌+◌, ◌≤◌, ◌<◌}
 use native.Mathlib.Omega.{arith}
@@ -8,11 +8,11 @@ use Rattle.octets.specs.declared.number.Width.TheVariants.{One}
 use Rattle.octets.specs.Bytes.{put_within}
 use Rattle.fields.specs.declared.layout.Field.{Field}
 use Rattle.fields.specs.declared.layout.Field.TheVariants.{Uint}
-use Rattle.fields.specs.Write.{fill, write, laid, Filled, eight, filled_by}
+use Rattle.fields.specs.Write.{fill, write, laid, Filled, behind, filled_by}
 use Rattle.fields.specs.Inner.{Good, written}
 use Rattle.fields.proofs.Filling.{nothing}
 use Rattle.fields.proofs.Putting.{Step, first_step, step_good, step_room, step_next, last_step, put_fits}
-use Rattle.fields.proofs.Reaching.{filled_at, firsts_count, firsts_at}
+use Rattle.fields.proofs.Reaching.{behind_at, filled_at, firsts_count, firsts_at}
 use Rattle.fields.proofs.laying.put_all.Goals as goal
 
 -- the field at a loop's place, v being its bytes
@@ -52,37 +52,31 @@ module _ (layout : List Field) (ns : List ℕ) (vs : List (List ℕ)) (n : ℕ) 
 pub loop-i-init : goal.loop-i-init
 loop-i-init c =
     let a = c.args in
-    let vs = eight a.a.now a.b.now a.c.now a.d.now a.e.now a.f.now a.g.now a.h.now in
-    (omega arith, refl, search rules, first_step _ (filled_by (take a.n a.layout) a.numbers vs) 0 c.requires.1)
+    (search rules, first_step _ (filled_by (take a.n a.layout) a.numbers (behind a.values)) 0 c.requires.1)
 
 pub overflow_add-at : goal.overflow_add-at
 overflow_add-at c =
     let a = c.args in
     let l = c.loop-i in
-    let vs = eight a.a.now a.b.now a.c.now a.d.now a.e.now a.f.now a.g.now a.h.now in
-    let few : a.n ≤ length a.layout = omega (arith, l.invariant.2) in
+    let few : a.n ≤ length a.layout = omega (arith, l.invariant.0) in
     let p = c.put_field-m in
-    let h = ends a.layout a.numbers vs a.n few l.i (omega arith) _ c.bytes_at-v.ensures a.out.now l.out l.at c.requires.2 l.invariant.3 l.invariant.1 _ p.result p.ensures.value p.ensures.out_after in
-    omega (arith, h, l.invariant.1)
+    let long : length l.out ≡ length a.out.now = search rules in
+    let h = ends a.layout a.numbers (behind a.values) a.n few l.i (omega arith) _ (behind_at a.values l.i) a.out.now l.out l.at c.requires.2 l.invariant.1 long _ p.result p.ensures.value p.ensures.out_after in
+    omega (arith, h, long)
 
 pub loop-i-preserved : goal.loop-i-preserved
 loop-i-preserved c =
     let a = c.args in
     let l = c.loop-i in
-    let vs = eight a.a.now a.b.now a.c.now a.d.now a.e.now a.f.now a.g.now a.h.now in
-    let few : a.n ≤ length a.layout = omega (arith, l.invariant.2) in
-    let p = c.put_field-m in (
-      omega arith,
-      p.auto.out ∙ l.invariant.1,
-      l.invariant.2,
-      next a.layout a.numbers vs a.n few l.i (omega arith) _ c.bytes_at-v.ensures a.out.now l.out l.at c.requires.2 l.invariant.3 l.invariant.1 _ p.result p.ensures.value p.ensures.out_after,
-    )
+    let few : a.n ≤ length a.layout = omega (arith, l.invariant.0) in
+    let p = c.put_field-m in
+    let long : length l.out ≡ length a.out.now = search rules in
+    (l.invariant.0, next a.layout a.numbers (behind a.values) a.n few l.i (omega arith) _ (behind_at a.values l.i) a.out.now l.out l.at c.requires.2 l.invariant.1 long _ p.result p.ensures.value p.ensures.out_after)
 
 pub returns : goal.returns
 returns c =
     let a = c.args in
     let l = c.loop-i in
-    let vs = eight a.a.now a.b.now a.c.now a.d.now a.e.now a.f.now a.g.now a.h.now in
-    let few : a.n ≤ length a.layout = omega (arith, l.invariant.2) in
-    let all = filled_by (take a.n a.layout) a.numbers vs in
-    last_step a.out.now (written (write all 0)) l.out all 0 l.at l.i l.invariant.3 (omega (arith, firsts_count a.layout a.numbers vs a.n few))
+    let few : a.n ≤ length a.layout = omega (arith, l.invariant.0) in
+    let all = filled_by (take a.n a.layout) a.numbers (behind a.values) in
+    last_step a.out.now (written (write all 0)) l.out all 0 l.at l.i l.invariant.1 (omega (arith, firsts_count a.layout a.numbers (behind a.values) a.n few))

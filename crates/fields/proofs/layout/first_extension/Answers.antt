@@ -8,10 +8,10 @@ use lib.Seq.{take-take}
 use borrow.Author.Tests.{lt-ltb, le-ltb}
 use Rattle.fields.specs.declared.layout.Order.{Order}
 use Rattle.fields.specs.declared.layout.Inner.TheVariants.{ExtensionList}
-use Rattle.fields.specs.declared.layout.Step.TheVariants.{Size, Not}
 use Rattle.octets.specs.Numbers.{unbe}
-use Rattle.fields.specs.Layout.{out_of_order, element}
+use Rattle.fields.specs.Layout.{out_of_order, element, sized}
 use Rattle.fields.specs.Inner.{part}
+use Rattle.octets.specs.Answer.{refused}
 use Rattle.fields.proofs.Elements.{part_length, part_drop}
 use Rattle.fields.proofs.layout.first_extension.Goals as goal
 
@@ -20,7 +20,7 @@ module _ (s : List ℕ) (at end : ℕ) (o : Order) (last : ℕ) (some : at < end
   size : length (part s at end) ≡ end - at
   size = part_length s at end (omega arith) fit
 
-  no_header : end - at < 4 → Not 2 ≡ element (ExtensionList o) last (part s at end)
+  no_header : end - at < 4 → refused 2 ≡ element (ExtensionList o) last (part s at end)
   unfolding element
   no_header h = rw (size, lt-ltb _ _ h)
 
@@ -28,11 +28,11 @@ module _ (s : List ℕ) (at end : ℕ) (o : Order) (last : ℕ) (some : at < end
     data_length : unbe (take 2 (drop 2 (part s at end))) ≡ n
     data_length = rw (part_drop s at end 2, take-take 2 (end - (at + 2)) (drop (at + 2) s) (omega arith)) (sym is)
 
-    cut_short : end - at - 4 < n → Not 2 ≡ element (ExtensionList o) last (part s at end)
+    cut_short : end - at - 4 < n → refused 2 ≡ element (ExtensionList o) last (part s at end)
     unfolding element
     cut_short h = rw (data_length, size, le-ltb _ _ room, lt-ltb _ _ h)
 
-    judged : n ≤ end - at - 4 → (k : ℕ) → k ≡ unbe (take 2 (drop at s)) → (b : Bool) → b ≡ out_of_order o last k → cond b (Not 15) (Size (4 + n) (k + 1)) ≡ element (ExtensionList o) last (part s at end)
+    judged : n ≤ end - at - 4 → (k : ℕ) → k ≡ unbe (take 2 (drop at s)) → (b : Bool) → b ≡ out_of_order o last k → cond b (refused 15) (sized (4 + n) (k + 1)) ≡ element (ExtensionList o) last (part s at end)
     unfolding element
     judged h k e b w =
         let t : unbe (take 2 (part s at end)) ≡ k = rw (take-take 2 (end - at) (drop at s) (omega arith)) (sym e) in

@@ -7,9 +7,9 @@ use lib.ListN.{length, drop, get_or}
 use lib.Seq.{get_or-take, get_or-drop}
 use borrow.Author.Tests.{lt-ltb, le-ltb, eq-eqb, ne_eqb}
 use Rattle.fields.specs.declared.layout.Inner.TheVariants.{NodeList}
-use Rattle.fields.specs.declared.layout.Step.TheVariants.{Size, Not}
-use Rattle.fields.specs.Layout.{element}
+use Rattle.fields.specs.Layout.{element, sized}
 use Rattle.fields.specs.Inner.{part}
+use Rattle.octets.specs.Answer.{refused}
 use Rattle.fields.proofs.Elements.{part_length}
 use Rattle.fields.proofs.layout.first_node.Goals as goal
 
@@ -21,16 +21,16 @@ module _ (s : List ℕ) (at end : ℕ) (some : at < end) (fit : end ≤ length s
   first : get_or (part s at end) 0 0 ≡ get_or s at 0
   first = let h : 0 < end - at = omega arith in get_or-take (end - at) (drop at s) 0 0 h ∙ get_or-drop at s 0 0 ∙ ap (λ (k : ℕ). get_or s k 0) (add-zero at)
 
-  other_length : (get_or s at 0 ≡ 32 → ⊥) → Not 5 ≡ element NodeList 0 (part s at end)
+  other_length : (get_or s at 0 ≡ 32 → ⊥) → refused 5 ≡ element NodeList 0 (part s at end)
   unfolding element
   other_length h = rw (first, ne_eqb _ _ h)
 
   module _ (is : get_or s at 0 ≡ 32) where
-    cut_short : end - at < 33 → Not 2 ≡ element NodeList 0 (part s at end)
+    cut_short : end - at < 33 → refused 2 ≡ element NodeList 0 (part s at end)
     unfolding element
     cut_short h = rw (first, size, eq-eqb _ _ is, lt-ltb _ _ h)
 
-    whole : 33 ≤ end - at → Size 33 0 ≡ element NodeList 0 (part s at end)
+    whole : 33 ≤ end - at → sized 33 0 ≡ element NodeList 0 (part s at end)
     unfolding element
     whole h = rw (first, size, eq-eqb _ _ is, le-ltb _ _ h)
 

@@ -5,17 +5,17 @@ use native.Mathlib.Omega.{arith}
 use lib.ListN.{length, take, drop, length-drop}
 use borrow.Author.Tests.{lt-ltb, le-ltb}
 use Rattle.octets.specs.Numbers.{unbe}
-use Rattle.fields.specs.declared.layout.FieldRead.TheVariants.{Found, Bad}
 use Rattle.fields.specs.Layout.{number_at}
+use Rattle.fields.specs.Checked.{good, bad}
 use Rattle.fields.proofs.layout.read_uint.Goals as goal
 
 -- a number of w bytes, n being what is read there
 module _ (s : List ℕ) (at w W : ℕ) (same : w ≡ W) where
-  short : length s - at < w → Bad 2 at ≡ number_at W (drop at s) at
+  short : length s - at < w → bad 2 at ≡ number_at W (drop at s) at
   unfolding number_at
   short h = rw (← same, length-drop, lt-ltb _ _ h)
 
-  whole : w ≤ length s - at → (n : ℕ) → n ≡ unbe (take W (drop at s)) → Found (record { start = at; len = w; value = n }) ≡ number_at W (drop at s) at
+  whole : w ≤ length s - at → (n : ℕ) → n ≡ unbe (take W (drop at s)) → good (record { start = at; len = w; value = n }) ≡ number_at W (drop at s) at
   unfolding number_at
   whole h n e = rw (e, ← same, length-drop, le-ltb _ _ h)
 

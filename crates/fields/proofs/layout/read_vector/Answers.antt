@@ -4,37 +4,34 @@ use Prim.Native.Nat.{ℕ, ◌+◌, ◌-◌, ◌≤◌, ◌<◌}
 use native.Mathlib.Omega.{arith}
 use lib.ListN.{length, take, drop, length-drop}
 use lib.Seq.{drop-drop}
+use Rattle.std.proofs.Common.{◌⊎◌, inl, inr}
 use borrow.Author.Tests.{lt-ltb, le-ltb}
 use Rattle.octets.specs.Numbers.{width_of, unbe}
 use Rattle.fields.specs.declared.layout.Inner.{Inner}
-use Rattle.fields.specs.declared.layout.Inside.{Inside}
-use Rattle.fields.specs.declared.layout.Inside.TheVariants.{Fine}
-use Rattle.fields.specs.declared.layout.FieldRead.TheVariants.{Bad}
 use Rattle.fields.specs.Layout.{inside, vector_at, whole}
 use Rattle.fields.specs.Inner.{part}
+use Rattle.fields.specs.Checked.{Checked, good, bad, checked}
+use Rattle.fields.proofs.Answers.{passed_on}
 use Rattle.fields.proofs.layout.read_vector.Goals.{After-number_at-value, After-width_of-w}
 use Rattle.fields.proofs.layout.read_vector.Goals as goal
 
 -- the cases of a vector, over plain lists, n being its prefix's number
 module _ (s : List ℕ) (at w least most : ℕ) (i : Inner) where
-  no-prefix : length s - at < w → Bad 2 at ≡ vector_at w least most i (drop at s) at
+  no-prefix : length s - at < w → bad 2 at ≡ vector_at w least most i (drop at s) at
   unfolding vector_at
   no-prefix h = rw (length-drop, lt-ltb _ _ h)
 
   module _ (n : ℕ) (is : n ≡ unbe (take w (drop at s))) (room : w ≤ length s - at) where
-    few : n < least → Bad 5 at ≡ vector_at w least most i (drop at s) at
+    out : (n < least) ⊎ ((least ≤ n) × (most < n)) → bad 5 at ≡ vector_at w least most i (drop at s) at
     unfolding vector_at
-    few h = rw (← is, length-drop, le-ltb _ _ room, lt-ltb _ _ h)
+    out (inl h) = rw (← is, length-drop, le-ltb _ _ room, lt-ltb _ _ h)
+    out (inr (l, h)) = rw (← is, length-drop, le-ltb _ _ room, le-ltb _ _ l, lt-ltb _ _ h)
 
-    many : least ≤ n → most < n → Bad 5 at ≡ vector_at w least most i (drop at s) at
-    unfolding vector_at
-    many l h = rw (← is, length-drop, le-ltb _ _ room, le-ltb _ _ l, lt-ltb _ _ h)
-
-    short : least ≤ n → n ≤ most → length s - at - w < n → Bad 2 at ≡ vector_at w least most i (drop at s) at
+    short : least ≤ n → n ≤ most → length s - at - w < n → bad 2 at ≡ vector_at w least most i (drop at s) at
     unfolding vector_at
     short l m h = simp (← is, length-drop, le-ltb _ _ room, le-ltb _ _ l, le-ltb _ _ m, lt-ltb _ _ h)
 
-    body : least ≤ n → n ≤ most → n ≤ length s - at - w → (x : Inside) → x ≡ inside i (part s (at + w) (at + w + n)) (at + w) → whole x (record { start = at + w; len = n; value = n }) ≡ vector_at w least most i (drop at s) at
+    body : least ≤ n → n ≤ most → n ≤ length s - at - w → (x : Checked Unit) → x ≡ inside i (part s (at + w) (at + w + n)) (at + w) → whole x (record { start = at + w; len = n; value = n }) ≡ vector_at w least most i (drop at s) at
     unfolding vector_at
     body l m h x e =
         let k : at + w + n - (at + w) ≡ n = omega arith in
@@ -64,13 +61,7 @@ pub returns-then-n-least : goal.returns-then-n-least
 returns-then-n-least c =
     let a = c.args in
     let p = goal.at.returns-then-n-least c in
-    few a.s.now a.at _ a.least a.most a.inner _ (is p.After-number_at-value) (omega arith) (omega arith) ∙ wide p.After-width_of-w
-
-pub returns-then-most-n : goal.returns-then-most-n
-returns-then-most-n c =
-    let a = c.args in
-    let p = goal.at.returns-then-most-n c in
-    many a.s.now a.at _ a.least a.most a.inner _ (is p.After-number_at-value) (omega arith) (omega arith) (omega arith) ∙ wide p.After-width_of-w
+    out a.s.now a.at _ a.least a.most a.inner _ (is p.After-number_at-value) (omega arith) c.then-n-least.either ∙ wide p.After-width_of-w
 
 pub returns-then-left-w-2 : goal.returns-then-left-w-2
 returns-then-left-w-2 c =
@@ -78,14 +69,14 @@ returns-then-left-w-2 c =
     let p = goal.at.returns-then-left-w-2 c in
     short a.s.now a.at _ a.least a.most a.inner _ (is p.After-number_at-value) (omega arith) (omega arith) (omega arith) (omega arith) ∙ wide p.After-width_of-w
 
-pub returns-in-Wrong : goal.returns-in-Wrong
-returns-in-Wrong c =
+pub returns-in_err-check_inside : goal.returns-in_err-check_inside
+returns-in_err-check_inside c =
     let a = c.args in
-    let p = goal.at.returns-in-Wrong c in
-    body a.s.now a.at _ a.least a.most a.inner _ (is p.After-number_at-value) (omega arith) (omega arith) (omega arith) (omega arith) _ c.in-Wrong.ensures ∙ wide p.After-width_of-w
+    let p = goal.at.returns-in_err-check_inside c in
+    ap checked (passed_on _ _ c.from_residual.ensures.1) ∙ body a.s.now a.at _ a.least a.most a.inner _ (is p.After-number_at-value) (omega arith) (omega arith) (omega arith) (omega arith) _ c.in_err-check_inside.ensures ∙ wide p.After-width_of-w
 
-pub returns-in-Fine : goal.returns-in-Fine
-returns-in-Fine c =
+pub returns : goal.returns
+returns c =
     let a = c.args in
-    let p = goal.at.returns-in-Fine c in
-    body a.s.now a.at _ a.least a.most a.inner _ (is p.After-number_at-value) (omega arith) (omega arith) (omega arith) (omega arith) Fine c.in-Fine.ensures ∙ wide p.After-width_of-w
+    let p = goal.at.returns c in
+    body a.s.now a.at _ a.least a.most a.inner _ (is p.After-number_at-value) (omega arith) (omega arith) (omega arith) (omega arith) (good tt) c.in_ok-check_inside.ensures ∙ wide p.After-width_of-w

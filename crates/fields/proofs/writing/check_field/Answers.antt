@@ -6,13 +6,13 @@ use Rattle.octets.specs.Numbers.{width_of}
 use Rattle.octets.proofs.Numbers.{be_length}
 use Rattle.fields.specs.declared.layout.Field.{Field}
 use Rattle.fields.specs.declared.layout.Field.TheVariants.{Uint}
-use Rattle.fields.specs.declared.writing.Fill.TheVariants.{Takes}
 use Rattle.fields.specs.Write.{fill, held}
 use Rattle.fields.specs.Effect.{takes}
+use Rattle.fields.specs.Checked.{good}
 use Rattle.fields.proofs.writing.check_field.Goals as goal
 
-number : (w : Width) (m : ℕ) (f : Field) (n : ℕ) (v : List ℕ) → m ≡ width_of w → f ≡ Uint w → Takes m ≡ takes (fill f (held f n v) 0)
-number w m f n v is e = rw e (ap Takes (is ∙ sym (be_length (width_of w) n)))
+number : (w : Width) (m : ℕ) (f : Field) (n : ℕ) (v : List ℕ) → m ≡ width_of w → f ≡ Uint w → good m ≡ takes (fill f (held f n v) 0)
+number w m f n v is e = rw e (ap good (is ∙ sym (be_length (width_of w) n)))
 
 pub returns-in-Uint : goal.returns-in-Uint
 returns-in-Uint c = number _ _ _ _ _ c.width_of.ensures.0 c.in-Uint.is

@@ -3,17 +3,17 @@ use mathlib.Core.List.{List}
 use Prim.Native.Nat.{ℕ}
 use lib.ListN.{length}
 use borrow.Author.Tests.{eq-eqb, ne_eqb}
-use Rattle.fields.specs.declared.writing.Fill.TheVariants.{Takes, Not}
 use Rattle.fields.specs.Write.{fixed_filled}
 use Rattle.fields.specs.Effect.{takes}
+use Rattle.fields.specs.Checked.{good, bad}
 use Rattle.fields.proofs.writing.check_fixed.Goals as goal
 
 module _ (n : ℕ) (v : List ℕ) where
-  other : (length v ≡ n → ⊥) → Not 5 0 ≡ takes (fixed_filled n v 0)
+  other : (length v ≡ n → ⊥) → bad 5 0 ≡ takes (fixed_filled n v 0)
   unfolding fixed_filled
   other h = rw (ne_eqb _ _ h)
 
-  right : length v ≡ n → Takes n ≡ takes (fixed_filled n v 0)
+  right : length v ≡ n → good n ≡ takes (fixed_filled n v 0)
   unfolding fixed_filled
   right h = rw (eq-eqb _ _ h) (rw h)
 

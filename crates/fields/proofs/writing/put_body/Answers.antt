@@ -5,6 +5,7 @@ use native.Mathlib.Omega.{arith}
 use lib.ListN.{length}
 use Rattle.octets.specs.Bytes.{put, put_within}
 use Rattle.octets.proofs.Putting.{put_in}
+use Rattle.std.proofs.Common.{◌⊎◌, inl, inr}
 use Rattle.fields.specs.declared.layout.Order.{Order}
 use Rattle.fields.specs.declared.layout.Inner.{Inner}
 use Rattle.fields.specs.declared.layout.Inner.TheVariants.{Opaque, ExtensionList, NodeList}
@@ -13,13 +14,10 @@ use Rattle.fields.proofs.Bodies.{prefixed_length}
 use Rattle.fields.proofs.writing.put_body.Goals as goal
 
 module _ (i : Inner) (out out₁ v : List ℕ) (at : ℕ) (h : at + length (wrap i v) ≤ length out) where
-  plain : i ≡ Opaque → out₁ ≡ put_within out at v → out₁ ≡ put out at (wrap i v)
+  plain : (i ≡ Opaque) ⊎ ((o : Order) × (i ≡ ExtensionList o)) → out₁ ≡ put_within out at v → out₁ ≡ put out at (wrap i v)
   unfolding wrap
-  plain e p = let g = rw e at h in rw e (p ∙ put_in out v at g)
-
-  exts : (o : Order) → i ≡ ExtensionList o → out₁ ≡ put_within out at v → out₁ ≡ put out at (wrap i v)
-  unfolding wrap
-  exts o e p = let g = rw e at h in rw e (p ∙ put_in out v at g)
+  plain (inl e) p = let g = rw e at h in rw e (p ∙ put_in out v at g)
+  plain (inr (o, e)) p = let g = rw e at h in rw e (p ∙ put_in out v at g)
 
   nodes : i ≡ NodeList → out₁ ≡ put out at (prefixed (length v / 32) v) → out₁ ≡ put out at (wrap i v)
   unfolding wrap
@@ -38,11 +36,6 @@ pub returns-in-Opaque : goal.returns-in-Opaque
 returns-in-Opaque c =
     let s = c in
     plain _ s.args.out.now _ s.args.v.now s.args.at s.requires c.in-Opaque.is c.put.ensures
-
-pub returns-in-ExtensionList : goal.returns-in-ExtensionList
-returns-in-ExtensionList c =
-    let s = c in
-    exts _ s.args.out.now _ s.args.v.now s.args.at s.requires _ c.in-ExtensionList.is c.put-in-ExtensionList.ensures
 
 pub returns-in-NodeList : goal.returns-in-NodeList
 returns-in-NodeList c =

@@ -1,13 +1,14 @@
-use mathlib.Core.Path.{◌≡◌, refl, ap, ◌∙◌}
+use mathlib.Core.Path.{◌≡◌, ap, ◌∙◌}
 use mathlib.Core.List.{List, [], ◌∷◌}
 use Prim.Native.Nat.{ℕ, ◌+◌, ◌*◌, ◌/◌, ◌≤◌, ◌<◌}
 use native.Mathlib.Omega.{arith}
 use lib.ListN.{length, take, drop, set, length-set, length-drop}
 use lib.Seq.{length-take-le}
+use borrow.Author.Rules.{rules}
 use Rattle.fields.specs.Write.{prefixed}
 use Rattle.octets.specs.Bytes.{put, put_within}
 use Rattle.fields.proofs.Bodies.{prefixed_length}
-use Rattle.octets.proofs.Putting.{put_then, set_put, put_more, put_none, put_all, put_in}
+use Rattle.octets.proofs.Putting.{put_then, set_put, put_more, put_all, put_in}
 use Rattle.fields.proofs.Putting.{next_hash}
 use Rattle.fields.proofs.writing.put_nodes.Goals as goal
 
@@ -23,25 +24,15 @@ one_more out₀ out v at n k g r h e s x is =
     let y : at + k * 33 + 1 + length x ≤ length (set out (at + k * 33) 32) = simp length-set (omega (arith, ap length is)) in
     put_in (set out (at + k * 33) 32) x (at + k * 33 + 1) y ∙ ap (put (set out (at + k * 33) 32) (at + k * 33 + 1)) is ∙ rw a (b ∙ ap (λ (o : List ℕ). put o (at + k * 33) (32 ∷ take 32 (drop (k * 32) v))) e ∙ t ∙ ap (λ (j : ℕ). put out₀ at (take j (prefixed n v))) m)
 
-pub loop-k-init : goal.loop-k-init
-loop-k-init c = (omega arith, refl, put_none c.args.out.now (prefixed (length c.args.v.now / 32) c.args.v.now) c.args.at)
-
 pub loop-k-preserved : goal.loop-k-preserved
 loop-k-preserved c =
-    let l = c in
-    let a = l.args in
-    let k = l.loop-k.k in (
-      omega arith,
-      c.put.auto.out ∙ simp length-set l.loop-k.invariant.1,
-      c.put.ensures ∙ one_more a.out.now l.loop-k.out a.v.now a.at (length a.v.now / 32) k (omega arith) (omega arith) (omega arith) l.loop-k.invariant.2 l.loop-k.invariant.1 _ c.hash_at-h.ensures,
-    )
-
-pub shape_of-out : goal.shape_of-out
-shape_of-out c = c.loop-k.invariant.1
+    let a = c.args in
+    let l = c.loop-k in
+    let long : length l.out ≡ length a.out.now = search rules in
+    c.put.ensures ∙ one_more a.out.now l.out a.v.now a.at (length a.v.now / 32) l.k (omega arith) (omega arith) (omega arith) l.invariant long _ c.hash_at-h.ensures
 
 pub returns : goal.returns
 returns c =
-    let l = c in
-    let a = l.args in
+    let a = c.args in
     let q = prefixed_length (length a.v.now / 32) a.v.now (omega arith) in
-    l.loop-k.invariant.2 ∙ put_all a.out.now (prefixed (length a.v.now / 32) a.v.now) a.at (l.loop-k.k * 33) (omega arith)
+    c.loop-k.invariant ∙ put_all a.out.now (prefixed (length a.v.now / 32) a.v.now) a.at (c.loop-k.k * 33) (omega arith)

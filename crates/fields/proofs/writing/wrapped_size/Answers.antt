@@ -3,6 +3,7 @@ use mathlib.Core.List.{List}
 use Prim.Native.Nat.{ℕ, ◌*◌, ◌/◌}
 use native.Mathlib.Omega.{arith}
 use lib.ListN.{length}
+use Rattle.std.proofs.Common.{◌⊎◌, inl, inr}
 use Rattle.fields.specs.declared.layout.Order.{Order}
 use Rattle.fields.specs.declared.layout.Inner.{Inner}
 use Rattle.fields.specs.declared.layout.Inner.TheVariants.{Opaque, ExtensionList, NodeList}
@@ -11,13 +12,10 @@ use Rattle.fields.proofs.Bodies.{prefixed_length}
 use Rattle.fields.proofs.writing.wrapped_size.Goals as goal
 
 module _ (i : Inner) (n : ℕ) (v : List ℕ) (l : length v ≡ n) where
-  plain : i ≡ Opaque → n ≡ length (wrap i v)
+  plain : (i ≡ Opaque) ⊎ ((o : Order) × (i ≡ ExtensionList o)) → n ≡ length (wrap i v)
   unfolding wrap
-  plain e = rw e (sym l)
-
-  exts : (o : Order) → i ≡ ExtensionList o → n ≡ length (wrap i v)
-  unfolding wrap
-  exts o e = rw e (sym l)
+  plain (inl e) = rw e (sym l)
+  plain (inr (o, e)) = rw e (sym l)
 
   nodes : i ≡ NodeList → n / 32 * 33 ≡ length (wrap i v)
   unfolding wrap
@@ -25,9 +23,6 @@ module _ (i : Inner) (n : ℕ) (v : List ℕ) (l : length v ≡ n) where
 
 pub returns-in-Opaque : goal.returns-in-Opaque
 returns-in-Opaque c = ((λ v l. plain _ _ v l c.in-Opaque.is), omega arith)
-
-pub returns-in-ExtensionList : goal.returns-in-ExtensionList
-returns-in-ExtensionList c = ((λ v l. exts _ _ v l _ c.in-ExtensionList.is), omega arith)
 
 pub returns-in-NodeList : goal.returns-in-NodeList
 returns-in-NodeList c = ((λ v l. nodes _ _ v l c.in-NodeList.is), omega arith)
