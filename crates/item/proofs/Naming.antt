@@ -7,6 +7,8 @@ use native.Mathlib.Omega.{arith}
 use lib.ListN.{length, get_or, take}
 use lib.Dec.{ltb}
 use borrow.Author.Tests.{ltb-true, ltb-false}
+use Rattle.std.specs.Prelude.{Result, Ok, Err}
+use Rattle.octets.specs.Refusals.{refusal_number}
 use Rattle.octets.specs.Limits.{most_item}
 use Rattle.octets.specs.Numbers.{unbe}
 use Rattle.fields.specs.declared.layout.Part.{Part}
@@ -20,8 +22,7 @@ use Rattle.item.specs.declared.table.Name.TheVariants.{Timestamp}
 use Rattle.item.specs.declared.table.Met.{Met as MetKind}
 use Rattle.item.specs.declared.table.Met.TheVariants.{Whole, TypeBytes, Named, After}
 use Rattle.item.specs.declared.reader.Item.{Item}
-use Rattle.item.specs.declared.reader.Item.TheVariants.{Entry as entry, Receipt as receipt, SignedHead as signed_head, Consistency as consistency}
-use Rattle.item.specs.declared.reader.Item.TheVariants.{Inclusion as inclusion, Page as page, Refused as refused}
+use Rattle.item.specs.declared.reader.ItemRefused.{ItemRefused}
 use Rattle.item.specs.Table.{names_of, layout_of, met_in, types, find}
 use Rattle.item.specs.Item.{Reading, item, reading, read_by, Meets, met_after, met_by}
 use Rattle.item.specs.Claims.{Meeting, whole, type_bytes, named, after, NamesItsField}
@@ -29,14 +30,9 @@ use Rattle.item.proofs.Rows.{layout_length}
 use Rattle.item.proofs.Items.{find_place}
 
 -- an item that was read met nothing
-pub reads_meets : (i : Item) (q : Reading) (m : MetKind) → reading i ≡ good q → Meets i m
-reads_meets (refused x y z) q m e = bad_good x y q e
-reads_meets (entry k a b c d) q m e = tt
-reads_meets (receipt k a b c d) q m e = tt
-reads_meets (signed_head k a b c d f g) q m e = tt
-reads_meets (consistency k a b c d) q m e = tt
-reads_meets (inclusion k a b c d) q m e = tt
-reads_meets (page k a b c d) q m e = tt
+pub reads_meets : (i : Result Item ItemRefused) (q : Reading) (m : MetKind) → reading i ≡ good q → Meets i m
+reads_meets (Ok i) q m e = tt
+reads_meets (Err r) q m e = bad_good (refusal_number r.refusal) r.place q e
 
 -- a refusal names what it met
 met_field : (s : List ℕ) (c : Case) (x at : ℕ) → find types (unbe (take 2 s)) ≡ good c → read (layout_of c) s 2 ≡ bad x at → Meeting s x at (met_in c (length (parts_found (layout_of c) s 2)))

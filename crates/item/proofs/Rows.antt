@@ -84,12 +84,11 @@ filled_at n t [] i h = absurd (omega arith)
 filled_at n t (x ∷ ns) zero h = refl
 filled_at n t (x ∷ ns) (suc i) h = filled_at n t ns i (omega arith)
 
--- the field at a place of the first k names with its value, by what the code has there
-pub one_at : (n : Numbers) (t : Vectors) (names : List Name) (k i : ℕ) → length (take k names) ≡ k → i < k → (f : Field) (v : List ℕ) → f ≡ field_of (get_or names i Timestamp) → v ≡ bytes_by t (get_or names i Timestamp) → get_or (filled n t (take k names)) i nothing ≡ record { field = f; value = held f (number_by n (get_or names i Timestamp)) v }
-one_at n t names k i l h f v ef ev =
+-- the field at a place with its value, by what the code has there
+pub one_at : (n : Numbers) (t : Vectors) (names : List Name) (i : ℕ) → i < length names → (f : Field) (v : List ℕ) → f ≡ field_of (get_or names i Timestamp) → v ≡ bytes_by t (get_or names i Timestamp) → get_or (filled n t names) i nothing ≡ record { field = f; value = held f (number_by n (get_or names i Timestamp)) v }
+one_at n t names i l f v ef ev =
     let x = get_or names i Timestamp in
-    filled_at n t (take k names) i (omega arith)
-    ∙ ap (λ (y : Name). record { field = field_of y; value = value_of n t y }) (get_or-take k names i Timestamp h)
+    filled_at n t names i l
     ∙ ap (λ (w : Value). record { field = field_of x; value = w }) (held_is n t x)
     ∙ rw (ef, ev)
 

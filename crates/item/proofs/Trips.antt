@@ -5,6 +5,8 @@ use Prim.Native.Nat.{ℕ}
 use native.Mathlib.Omega.{arith}
 use lib.ListN.{length, get_or, take}
 use borrow.Author.Tests.{le-ltb}
+use Rattle.std.specs.Prelude.{Result, Ok, Err}
+use Rattle.octets.specs.Refusals.{refusal_number}
 use Rattle.fields.specs.declared.layout.Part.{Part}
 use Rattle.fields.specs.declared.layout.Inner.{Inner}
 use Rattle.fields.specs.declared.layout.Inner.TheVariants.{NodeList}
@@ -13,7 +15,8 @@ use Rattle.fields.specs.declared.layout.Field.TheVariants.{Vector}
 use Rattle.item.specs.declared.table.Case.{Case}
 use Rattle.item.specs.declared.table.Case.TheVariants.{Entry, Receipt, SignedHead, Consistency, Inclusion, Page}
 use Rattle.item.specs.declared.reader.Item.{Item}
-use Rattle.item.specs.declared.reader.Item.TheVariants.{Entry as entry, Receipt as receipt, SignedHead as signed_head, Consistency as consistency, Inclusion as inclusion, Page as page, Refused as refused}
+use Rattle.item.specs.declared.reader.Item.TheVariants.{Entry as entry, Receipt as receipt, SignedHead as signed_head, Consistency as consistency, Inclusion as inclusion, Page as page}
+use Rattle.item.specs.declared.reader.ItemRefused.{ItemRefused}
 use Rattle.item.specs.declared.writer.Numbers.{Numbers}
 use Rattle.fields.specs.Checked.{Checked, good, bad}
 use Rattle.octets.specs.declared.number.Width.{Width}
@@ -85,7 +88,7 @@ path_is_said s r e h =
     }
 
 -- what was taken is what the writer is to be given
-taken_given : (s : List ℕ) (i : Item) (r : Reading) (k : ℕ) (n : Numbers) (t : Vectors) → reading i ≡ good r → Taken (Copied s) s i k n t → Given s r k n t
+taken_given : (s : List ℕ) (i : Result Item ItemRefused) (r : Reading) (k : ℕ) (n : Numbers) (t : Vectors) → reading i ≡ good r → Taken (Copied s) s i k n t → Given s r k n t
 unfolding values opened unwrap
 taken_given s i r k n t e h = go i e h
   where
@@ -95,17 +98,17 @@ taken_given s i r k n t e h = go i e h
     path : (p : Part) → Copied s p t.path → t.path ≡ unwrap NodeList (bytes_at s p)
     path p e = (was_copied s p t.path e).is
 
-    go : (i : Item) → reading i ≡ good r → Taken (Copied s) s i k n t → Given s r k n t
-    go (refused x y m) e h = absurd h
-    go (entry kind a b c d) e (hk, h₀, h₁, h₂, h₃) = is _ e (hk, rw (h₀, h₁, h₂, h₃))
-    go (receipt kind a b c d) e (hk, h₀, h₁, h₂, h₃) = is _ e (hk, rw (h₀, h₁, h₂, h₃))
-    go (signed_head kind a b c d f g) e (hk, h₀, h₁, h₂, h₃, h₄, h₅) = is _ e (hk, rw (h₀, h₁, h₂, h₃, h₄, h₅))
-    go (consistency kind a b c d) e (hk, h₀, h₁, h₂, h₃) = is _ e (hk, rw (h₀, h₁, h₂, path d h₃))
-    go (inclusion kind a b c d) e (hk, h₀, h₁, h₂, h₃) = is _ e (hk, rw (h₀, h₁, h₂, path d h₃))
-    go (page kind a b c d) e (hk, h₀, h₁, h₂, h₃) = is _ e (hk, rw (h₀, h₁, h₂, h₃))
+    go : (i : Result Item ItemRefused) → reading i ≡ good r → Taken (Copied s) s i k n t → Given s r k n t
+    go (Err w) e h = absurd h
+    go (Ok (entry kind a b c d)) e (hk, h₀, h₁, h₂, h₃) = is _ e (hk, rw (h₀, h₁, h₂, h₃))
+    go (Ok (receipt kind a b c d)) e (hk, h₀, h₁, h₂, h₃) = is _ e (hk, rw (h₀, h₁, h₂, h₃))
+    go (Ok (signed_head kind a b c d f g)) e (hk, h₀, h₁, h₂, h₃, h₄, h₅) = is _ e (hk, rw (h₀, h₁, h₂, h₃, h₄, h₅))
+    go (Ok (consistency kind a b c d)) e (hk, h₀, h₁, h₂, h₃) = is _ e (hk, rw (h₀, h₁, h₂, path d h₃))
+    go (Ok (inclusion kind a b c d)) e (hk, h₀, h₁, h₂, h₃) = is _ e (hk, rw (h₀, h₁, h₂, path d h₃))
+    go (Ok (page kind a b c d)) e (hk, h₀, h₁, h₂, h₃) = is _ e (hk, rw (h₀, h₁, h₂, h₃))
 
 -- and the other way round, of an item that was read
-given_taken : (s : List ℕ) (i : Item) (r : Reading) (k : ℕ) (n : Numbers) (t : Vectors) → reading i ≡ good r → read_item s ≡ good r → Given s r k n t → Taken (Copied s) s i k n t
+given_taken : (s : List ℕ) (i : Result Item ItemRefused) (r : Reading) (k : ℕ) (n : Numbers) (t : Vectors) → reading i ≡ good r → read_item s ≡ good r → Given s r k n t → Taken (Copied s) s i k n t
 unfolding values opened unwrap
 given_taken s i r k n t e d g = go i e
   where
@@ -123,14 +126,14 @@ given_taken s i r k n t e d g = go i e
     vector : ℕ → List Filled → List ℕ
     vector j l = bytes_in (get_or l j nothing).value
 
-    go : (i : Item) → reading i ≡ good r → Taken (Copied s) s i k n t
-    go (refused x y m) e = bad_good x y r e
-    go (entry kind a b c d) e = let h = is _ e in (h.0, ap (number 0) h.1, ap (vector 1) h.1, ap (vector 2) h.1, ap (vector 3) h.1)
-    go (receipt kind a b c d) e = let h = is _ e in (h.0, ap (vector 0) h.1, ap (number 1) h.1, ap (vector 2) h.1, ap (vector 3) h.1)
-    go (signed_head kind a b c d f g) e = let h = is _ e in (h.0, ap (vector 0) h.1, ap (number 1) h.1, ap (number 2) h.1, ap (vector 3) h.1, ap (vector 4) h.1, ap (vector 5) h.1)
-    go (consistency kind a b c d) e = let h = is _ e in (h.0, ap (vector 0) h.1, ap (number 1) h.1, ap (number 2) h.1, path _ e tt)
-    go (inclusion kind a b c d) e = let h = is _ e in (h.0, ap (vector 0) h.1, ap (number 1) h.1, ap (number 2) h.1, path _ e tt)
-    go (page kind a b c d) e = let h = is _ e in (h.0, ap (number 0) h.1, ap (number 1) h.1, ap (number 2) h.1, ap (vector 3) h.1)
+    go : (i : Result Item ItemRefused) → reading i ≡ good r → Taken (Copied s) s i k n t
+    go (Err w) e = bad_good (refusal_number w.refusal) w.place r e
+    go (Ok (entry kind a b c d)) e = let h = is _ e in (h.0, ap (number 0) h.1, ap (vector 1) h.1, ap (vector 2) h.1, ap (vector 3) h.1)
+    go (Ok (receipt kind a b c d)) e = let h = is _ e in (h.0, ap (vector 0) h.1, ap (number 1) h.1, ap (vector 2) h.1, ap (vector 3) h.1)
+    go (Ok (signed_head kind a b c d f g)) e = let h = is _ e in (h.0, ap (vector 0) h.1, ap (number 1) h.1, ap (number 2) h.1, ap (vector 3) h.1, ap (vector 4) h.1, ap (vector 5) h.1)
+    go (Ok (consistency kind a b c d)) e = let h = is _ e in (h.0, ap (vector 0) h.1, ap (number 1) h.1, ap (number 2) h.1, path _ e tt)
+    go (Ok (inclusion kind a b c d)) e = let h = is _ e in (h.0, ap (vector 0) h.1, ap (number 1) h.1, ap (number 2) h.1, path _ e tt)
+    go (Ok (page kind a b c d)) e = let h = is _ e in (h.0, ap (number 0) h.1, ap (number 1) h.1, ap (number 2) h.1, ap (vector 3) h.1)
 
 pub taken_then_written : TakenThenWritten
 taken_then_written s out i k n t bs e h fit = go (reading i) refl e
@@ -139,14 +142,14 @@ taken_then_written s out i k n t bs e h fit = go (reading i) refl e
     go (good r) ha e = read_then_written s out r k n t bs (sym e) (taken_given s i r k n t ha h) fit
     go (bad x y) ha e = absurd (refused_not i ha h)
       where
-        refused_not : (i : Item) → reading i ≡ bad x y → Taken (Copied s) s i k n t → ⊥
-        refused_not (refused a b m) e h = h
-        refused_not (entry kind a b c d) e h = good_bad x y _ e
-        refused_not (receipt kind a b c d) e h = good_bad x y _ e
-        refused_not (signed_head kind a b c d f g) e h = good_bad x y _ e
-        refused_not (consistency kind a b c d) e h = good_bad x y _ e
-        refused_not (inclusion kind a b c d) e h = good_bad x y _ e
-        refused_not (page kind a b c d) e h = good_bad x y _ e
+        refused_not : (i : Result Item ItemRefused) → reading i ≡ bad x y → Taken (Copied s) s i k n t → ⊥
+        refused_not (Err w) e h = h
+        refused_not (Ok (entry kind a b c d)) e h = good_bad x y _ e
+        refused_not (Ok (receipt kind a b c d)) e h = good_bad x y _ e
+        refused_not (Ok (signed_head kind a b c d f g)) e h = good_bad x y _ e
+        refused_not (Ok (consistency kind a b c d)) e h = good_bad x y _ e
+        refused_not (Ok (inclusion kind a b c d)) e h = good_bad x y _ e
+        refused_not (Ok (page kind a b c d)) e h = good_bad x y _ e
 
 pub written_then_taken : WrittenThenTaken
 written_then_taken k n t out m i z e d =

@@ -1,5 +1,5 @@
 -- What is proved of whole items beside the promises, in the words of the second demand. Assumes nothing.
-use Rattle.std.specs.Prelude.{ℕ, ◌+◌, ◌^◌, ◌≤◌, ◌<◌, ◌≡◌, ◌↔◌, ◌≢◌, List, [], ◌∷◌, ◌++◌, map, length, get_or, take, drop}
+use Rattle.std.specs.Prelude.{ℕ, ◌+◌, ◌^◌, ◌≤◌, ◌<◌, ◌≡◌, ◌↔◌, ◌≢◌, List, [], ◌∷◌, ◌++◌, map, length, get_or, take, drop, Result, Ok, Err}
 use Rattle.std.specs.Borrow.{Bor}
 use Rattle.octets.specs.Bytes.{Bytes}
 use Rattle.octets.specs.Limits.{most_item}
@@ -21,7 +21,8 @@ use Rattle.item.specs.declared.table.Case.{Case}
 use Rattle.item.specs.declared.table.Case.TheVariants.{Entry, Receipt, SignedHead, Consistency, Inclusion, Page}
 use Rattle.item.specs.declared.reader.Item.{Item}
 use Rattle.item.specs.declared.reader.Item.TheVariants.{Entry as entry, Receipt as receipt, SignedHead as signed_head, Consistency as consistency}
-use Rattle.item.specs.declared.reader.Item.TheVariants.{Inclusion as inclusion, Page as page, Refused as refused}
+use Rattle.item.specs.declared.reader.Item.TheVariants.{Inclusion as inclusion, Page as page}
+use Rattle.item.specs.declared.reader.ItemRefused.{ItemRefused}
 use Rattle.item.specs.declared.heads.Choice.TheVariants.{Neither}
 use Rattle.item.specs.declared.writer.Numbers.{Numbers}
 use Rattle.item.specs.Table.{names_of, layout_of, types, find}
@@ -125,23 +126,23 @@ PathIsSaid = (s : List ℕ) (r : Reading) → read_item s ≡ good r → HasPath
 
 -- What a caller takes of the reader's answer and hands to the writer: the type, each number as it was answered, each vector's bytes where it lies, and for
 -- a path what P says of its part.
-abbrev pub Taken : (Part → List ℕ → Type 0) → List ℕ → Item → ℕ → Numbers → Vectors → Type 0
-Taken P s (entry kind timestamp issuer_key_hash certificate extensions) k n t =
+abbrev pub Taken : (Part → List ℕ → Type 0) → List ℕ → Result Item ItemRefused → ℕ → Numbers → Vectors → Type 0
+Taken P s (Ok (entry kind timestamp issuer_key_hash certificate extensions)) k n t =
     (k ≡ kind) × (n.timestamp ≡ timestamp.value) × (t.issuer_key_hash ≡ bytes_at s issuer_key_hash) × (t.certificate ≡ bytes_at s certificate)
     × (t.extensions ≡ bytes_at s extensions)
-Taken P s (receipt kind log_id timestamp extensions signature) k n t =
+Taken P s (Ok (receipt kind log_id timestamp extensions signature)) k n t =
     (k ≡ kind) × (t.log_id ≡ bytes_at s log_id) × (n.timestamp ≡ timestamp.value) × (t.extensions ≡ bytes_at s extensions)
     × (t.signature ≡ bytes_at s signature)
-Taken P s (signed_head kind log_id timestamp size root_hash extensions signature) k n t =
+Taken P s (Ok (signed_head kind log_id timestamp size root_hash extensions signature)) k n t =
     (k ≡ kind) × (t.log_id ≡ bytes_at s log_id) × (n.timestamp ≡ timestamp.value) × (n.size ≡ size.value) × (t.root_hash ≡ bytes_at s root_hash)
     × (t.extensions ≡ bytes_at s extensions) × (t.signature ≡ bytes_at s signature)
-Taken P s (consistency kind log_id size_one_of size_two_of path) k n t =
+Taken P s (Ok (consistency kind log_id size_one_of size_two_of path)) k n t =
     (k ≡ kind) × (t.log_id ≡ bytes_at s log_id) × (n.size_one ≡ size_one_of.value) × (n.size_two ≡ size_two_of.value) × P path t.path
-Taken P s (inclusion kind log_id size place path) k n t =
+Taken P s (Ok (inclusion kind log_id size place path)) k n t =
     (k ≡ kind) × (t.log_id ≡ bytes_at s log_id) × (n.size ≡ size.value) × (n.place ≡ place.value) × P path t.path
-Taken P s (page kind timestamp agreement number body) k n t =
+Taken P s (Ok (page kind timestamp agreement number body)) k n t =
     (k ≡ kind) × (n.timestamp ≡ timestamp.value) × (n.agreement ≡ agreement.value) × (n.page ≡ number.value) × (t.body ≡ bytes_at s body)
-Taken P s (refused number place met) k n t = ⊥
+Taken P s (Err e) k n t = ⊥
 
 -- the path that is copied of its part
 abbrev pub Copied : List ℕ → Part → List ℕ → Type 0
@@ -150,12 +151,12 @@ Copied s p w = path_at s p ≡ good w
 -- both round trips as a caller makes them
 abbrev pub TakenThenWritten : Type 0
 TakenThenWritten =
-    (s out : List ℕ) (i : Item) (k : ℕ) (n : Numbers) (t : Vectors) → Bytes s → reading i ≡ read_item s → Taken (Copied s) s i k n t → length s ≤ length out
+    (s out : List ℕ) (i : Result Item ItemRefused) (k : ℕ) (n : Numbers) (t : Vectors) → Bytes s → reading i ≡ read_item s → Taken (Copied s) s i k n t → length s ≤ length out
     → write_item k n t out ≡ wrote s out
 
 abbrev pub WrittenThenTaken : Type 0
 WrittenThenTaken =
-    (k : ℕ) (n : Numbers) (t : Vectors) (out : List ℕ) (m : ℕ) (i : Item) → Sized k n → (write_item k n t out).answer ≡ good m
+    (k : ℕ) (n : Numbers) (t : Vectors) (out : List ℕ) (m : ℕ) (i : Result Item ItemRefused) → Sized k n → (write_item k n t out).answer ≡ good m
     → reading i ≡ read_item (take m (write_item k n t out).bytes)
     → Taken (Copied (take m (write_item k n t out).bytes)) (take m (write_item k n t out).bytes) i k n t
 

@@ -1,7 +1,8 @@
 -- Whole items: what the reader answers and what the writer writes (document 01, 'Items'; RFC 9162, sections 4.5 to 4.12). Assumes nothing.
-use Rattle.std.specs.Prelude.{ℕ, ◌≡◌, List, [], ◌∷◌, map, cond, length, take, ltb}
+use Rattle.std.specs.Prelude.{ℕ, ◌≡◌, List, [], ◌∷◌, map, cond, length, take, ltb, Result, Ok, Err}
 use Rattle.octets.specs.Limits.{most_item}
 use Rattle.octets.specs.Numbers.{unbe, be}
+use Rattle.octets.specs.Refusals.{refusal_number}
 use Rattle.fields.specs.declared.layout.Part.{Part}
 use Rattle.fields.specs.declared.layout.Field.{Field}
 use Rattle.fields.specs.Checked.{Checked, good, bad, then}
@@ -12,13 +13,15 @@ use Rattle.item.specs.declared.table.Case.{Case}
 use Rattle.item.specs.declared.table.Case.TheVariants.{Entry, Receipt, SignedHead, Consistency, Inclusion, Page}
 use Rattle.item.specs.declared.reader.Item.{Item}
 use Rattle.item.specs.declared.reader.Item.TheVariants.{Entry as entry, Receipt as receipt, SignedHead as signed_head, Consistency as consistency}
-use Rattle.item.specs.declared.reader.Item.TheVariants.{Inclusion as inclusion, Page as page, Refused as refused}
+use Rattle.item.specs.declared.reader.Item.TheVariants.{Inclusion as inclusion, Page as page}
+use Rattle.item.specs.declared.reader.ItemRefused.{ItemRefused}
 use Rattle.item.specs.declared.table.Met.{Met}
 use Rattle.item.specs.declared.table.Met.TheVariants.{Whole, TypeBytes}
 use Rattle.item.specs.declared.table.Name.{Name}
 use Rattle.item.specs.declared.table.Name.TheVariants.{Timestamp, Size, SizeOne, SizeTwo, Place, Agreement, PageNumber}
 use Rattle.item.specs.declared.table.Name.TheVariants.{LogId, IssuerKeyHash, Certificate, RootHash, Extensions, Signature, Path, Body}
 use Rattle.item.specs.declared.writer.Numbers.{Numbers}
+use Rattle.item.specs.declared.writer.Vectors.{Vectors as Slices}
 use Rattle.item.specs.Table.{field_of, names_of, layout_of, met_in, types, find}
 
 -- an item that was read: its line of the table, its type, and where its fields lie, in the table's order
@@ -31,20 +34,20 @@ abbrev pub item : Case → ℕ → List Part → Checked Reading
 item c k ps = good (record { case = c; kind = k; fields = ps })
 
 -- what each case of the reader's answer says
-abbrev pub reading : Item → Checked Reading
-reading (entry k timestamp issuer_key_hash certificate extensions) =
+abbrev pub reading : Result Item ItemRefused → Checked Reading
+reading (Ok (entry k timestamp issuer_key_hash certificate extensions)) =
     item Entry k (timestamp ∷ issuer_key_hash ∷ certificate ∷ extensions ∷ [])
-reading (receipt k log_id timestamp extensions signature) =
+reading (Ok (receipt k log_id timestamp extensions signature)) =
     item Receipt k (log_id ∷ timestamp ∷ extensions ∷ signature ∷ [])
-reading (signed_head k log_id timestamp size root_hash extensions signature) =
+reading (Ok (signed_head k log_id timestamp size root_hash extensions signature)) =
     item SignedHead k (log_id ∷ timestamp ∷ size ∷ root_hash ∷ extensions ∷ signature ∷ [])
-reading (consistency k log_id size_one_of size_two_of path) =
+reading (Ok (consistency k log_id size_one_of size_two_of path)) =
     item Consistency k (log_id ∷ size_one_of ∷ size_two_of ∷ path ∷ [])
-reading (inclusion k log_id size place path) =
+reading (Ok (inclusion k log_id size place path)) =
     item Inclusion k (log_id ∷ size ∷ place ∷ path ∷ [])
-reading (page k timestamp agreement number body) =
+reading (Ok (page k timestamp agreement number body)) =
     item Page k (timestamp ∷ agreement ∷ number ∷ body ∷ [])
-reading (refused number place met) = bad number place
+reading (Err e) = bad (refusal_number e.refusal) e.place
 
 -- a whole item by the fields of its line: 1 at 0 if it is too long; then the two bytes of its type; then its fields
 unfoldable pub read_by : (Case → List Field) → List ℕ → Checked Reading
@@ -69,14 +72,9 @@ met_by s =
     (met_after (find types (unbe (take 2 s))) (λ c. met_in c (length (parts_found (layout_of c) s 2)))))
 
 -- what the answer says of it; an item that is read met nothing
-abbrev pub Meets : Item → Met → Type 0
-Meets (refused number place met) m = met ≡ m
-Meets (entry k a b c d) m = Unit
-Meets (receipt k a b c d) m = Unit
-Meets (signed_head k a b c d e f) m = Unit
-Meets (consistency k a b c d) m = Unit
-Meets (inclusion k a b c d) m = Unit
-Meets (page k a b c d) m = Unit
+abbrev pub Meets : Result Item ItemRefused → Met → Type 0
+Meets (Ok i) m = Unit
+Meets (Err e) m = e.met ≡ m
 
 -- the bytes that the writer is given for each vector: extensions as their encoded elements, a path as joined hashes
 pub record Vectors : Type 0 where
@@ -92,6 +90,10 @@ pub record Vectors : Type 0 where
 abbrev pub vectors : List ℕ → List ℕ → List ℕ → List ℕ → List ℕ → List ℕ → List ℕ → List ℕ → Vectors
 vectors l i c r x g p b =
     record { log_id = l; issuer_key_hash = i; certificate = c; root_hash = r; extensions = x; signature = g; path = p; body = b }
+
+-- what stands behind the code's slices
+abbrev pub lent : Slices → Vectors
+lent v = vectors v.log_id.now v.issuer_key_hash.now v.certificate.now v.root_hash.now v.extensions.now v.signature.now v.path.now v.body.now
 
 -- what the writer is given by a field's name
 abbrev pub value_of : Numbers → Vectors → Name → Value

@@ -10,13 +10,10 @@ use octets::same;
 
 // What a signed head is compared by: where its log id lies, its timestamp and its size.
 #[derive(Clone, Copy)]
-pub enum Head {
-    Read {
-        log: Part,
-        timestamp: u64,
-        size: u64,
-    },
-    Unreadable,
+pub struct Head {
+    pub log: Part,
+    pub timestamp: u64,
+    pub size: u64,
 }
 
 #[derive(Clone, Copy)]
@@ -26,30 +23,26 @@ pub enum Choice {
     Neither,
 }
 
-fn head_of(s: &[u8]) -> Head
+fn head_of(s: &[u8]) -> Option<Head>
     ensures { (result ≡ head_of (read_item s.now)) × LogWithin s.now result }
 {
-    let item = read(s);
-    match item {
-        Item::SignedHead {
-            kind: _,
-            log_id,
-            timestamp,
-            size,
-            root_hash: _,
-            extensions: _,
-            signature: _,
-        } => Head::Read {
+    match read(s) {
+        Ok(
+            Item::SignedHead {
+                kind: _,
+                log_id,
+                timestamp,
+                size,
+                root_hash: _,
+                extensions: _,
+                signature: _,
+            },
+        ) => Some(Head {
             log: log_id,
             timestamp: timestamp.value,
             size: size.value,
-        },
-        Item::Entry { .. } => Head::Unreadable,
-        Item::Receipt { .. } => Head::Unreadable,
-        Item::Consistency { .. } => Head::Unreadable,
-        Item::Inclusion { .. } => Head::Unreadable,
-        Item::Page { .. } => Head::Unreadable,
-        Item::Refused { .. } => Head::Unreadable,
+        }),
+        _ => None,
     }
 }
 
@@ -57,39 +50,26 @@ fn head_of(s: &[u8]) -> Head
 fn choose<'a>(first: &'a [u8], second: &'a [u8]) -> Choice
     ensures { result ≡ which first.now second.now }
 {
-    let a = head_of(first);
-    let b = head_of(second);
-    let Head::Read {
-        log,
-        timestamp,
-        size,
-    } = a
-    else {
+    let Some(a) = head_of(first) else {
         return Choice::Neither;
     };
-    let Head::Read {
-        log: other,
-        timestamp: later,
-        size: larger,
-    } = b
-    else {
+    let Some(b) = head_of(second) else {
         return Choice::Neither;
     };
-    let i = log.start;
-    let j = i + log.len;
-    let k = other.start;
-    let l = k + other.len;
-    let one = same(&first[i..j], &second[k..l]);
+    let one = same(
+        &first[a.log.start..a.log.start + a.log.len],
+        &second[b.log.start..b.log.start + b.log.len],
+    );
     if !one {
         return Choice::Neither;
     }
-    if size < larger {
+    if a.size < b.size {
         return Choice::Second;
     }
-    if larger < size {
+    if b.size < a.size {
         return Choice::First;
     }
-    if timestamp < later {
+    if a.timestamp < b.timestamp {
         return Choice::Second;
     }
     Choice::First
@@ -100,8 +80,7 @@ fn choose<'a>(first: &'a [u8], second: &'a [u8]) -> Choice
 pub fn newer<'a>(first: &'a [u8], second: &'a [u8]) -> &'a [u8]
     ensures { Returns (which first.now second.now) first.entry second.entry result }
 {
-    let c = choose(first, second);
-    match c {
+    match choose(first, second) {
         Choice::First => first,
         Choice::Second => second,
         Choice::Neither => &first[..0],

@@ -15,9 +15,9 @@ ghost use Rattle.item.specs.Claims.{NamesItsField, PathIsSaid, TakenThenWritten,
 ghost use Rattle.item.specs.Claims.{StillRead, RefusedByOrder, FifteenInList, ReadByOrder, OrderFirst, RefusedAsRead, RefusedIsNeither};
 
 pub use heads::newer;
-pub use reader::{Item, read};
+pub use reader::{Item, ItemRefused, read};
 pub use table::{Met, Name};
-pub use writer::{Numbers, write};
+pub use writer::{Numbers, Vectors, write};
 
 // What is proved of reader, writer and choice beside their own promises, as the second demand asks. It does nothing.
 pub fn claims()

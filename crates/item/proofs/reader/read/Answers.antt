@@ -40,11 +40,11 @@ returns-then-s-gt-MOST_ITEM c = long c.args.s.now (omega arith)
 pub returns-then-s-lt2 : goal.returns-then-s-lt2
 returns-then-s-lt2 c = short c.args.s.now (omega arith) (omega arith)
 
-pub returns-in-Unknown : goal.returns-in-Unknown
-returns-in-Unknown c = unknown c.args.s.now (omega arith) (omega arith) c.number_at-kind.result c.number_at-kind.ensures.0 (sym c.in-Unknown.ensures)
+pub returns-in_default : goal.returns-in_default
+returns-in_default c = unknown c.args.s.now (omega arith) (omega arith) c.number_at-kind.result c.number_at-kind.ensures.0 (sym c.in_default.ensures)
 
-pub returns-in-As : goal.returns-in-As
-returns-in-As c =
+pub returns : goal.returns
+returns c =
     let r = c.read_fields in
-    let k = known c.args.s.now (omega arith) (omega arith) c.number_at-kind.result c.number_at-kind.ensures.0 c.in-As.case (sym c.in-As.ensures) in
+    let k = known c.args.s.now (omega arith) (omega arith) c.number_at-kind.result c.number_at-kind.ensures.0 c.in-Some.case (sym c.in-Some.ensures) in
     (r.ensures.0 ∙ k.0, subst (Meets r.result) k.1 r.ensures.1)

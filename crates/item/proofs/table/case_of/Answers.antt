@@ -1,58 +1,64 @@
-use mathlib.Core.Path.{◌≡◌, refl, ap, sym, ◌∙◌}
-use mathlib.Core.List.{List, [], ◌∷◌, map}
-use mathlib.Core.Bool.{cond}
-use Prim.Native.Nat.{ℕ, suc, ◌+◌, ◌-◌, ◌<◌}
+use mathlib.Core.Path.{◌≡◌, refl}
+use mathlib.Core.Bool.{Bool, true, false}
+use Prim.Native.Nat.{ℕ, suc, ◌≤◌}
 use native.Mathlib.Omega.{arith}
-use native.Mathlib.Numerals.{add-one}
-use lib.ListN.{length, get_or, drop}
 use lib.Dec.{eqb}
-use lib.Seq.{drop-cons}
-use borrow.Author.Tests.{eq-eqb, ne_eqb}
-use Rattle.item.specs.declared.table.Case.TheVariants.{Entry}
-use Rattle.fields.specs.Checked.{good}
-use Rattle.item.specs.Table.{TypeRow, type_row, types, find}
+use borrow.Author.Tests.{ne_eqb, eqb-true, eqb-false}
+use Rattle.std.proofs.Common.{◌⊎◌, inl, inr}
+use Rattle.fields.specs.Checked.{good, bad}
+use Rattle.item.specs.declared.table.Case.TheVariants.{Entry, Receipt}
+use Rattle.item.specs.Table.{types, find}
 use Rattle.item.proofs.table.case_of.Goals as goal
 
--- the row at a place of any list of them
-module _ (rs : List TypeRow) (k i : ℕ) (more : i < length rs) where
-  this : find (drop i rs) k ≡ cond (eqb k (get_or rs i (type_row 0 Entry)).kind) (good (get_or rs i (type_row 0 Entry)).case) (find (drop (suc i) rs) k)
-  unfolding find
-  this = rw (drop-cons rs i (type_row 0 Entry))
+-- one of two numbers in a row
+two : (k n : ℕ) → n ≤ k → k ≤ suc n → (k ≡ n) ⊎ (k ≡ suc n)
+two k n low high = go (eqb k n) refl
+  where
+    go : (b : Bool) → eqb k n ≡ b → (k ≡ n) ⊎ (k ≡ suc n)
+    go true e = inl (eqb-true k n e)
+    go false e = let h = eqb-false k n e in inr (omega arith)
 
-  hit : (get_or rs i (type_row 0 Entry)).kind ≡ k → find (drop i rs) k ≡ good (get_or rs i (type_row 0 Entry)).case
-  hit e = this ∙ rw (eq-eqb k (get_or rs i (type_row 0 Entry)).kind (sym e))
-
-  miss : ((get_or rs i (type_row 0 Entry)).kind ≡ k → ⊥) → find (drop i rs) k ≡ find (drop (i + 1) rs) k
-  miss e = this ∙ rw (ne_eqb k (get_or rs i (type_row 0 Entry)).kind (λ z. e (sym z)), add-one)
-
-kind_at : (rs : List TypeRow) (i : ℕ) → get_or (map (λ (r : TypeRow). r.kind) rs) i 0 ≡ (get_or rs i (type_row 0 Entry)).kind
-kind_at [] i = refl
-kind_at (r ∷ rs) Prim.Native.Nat.zero = refl
-kind_at (r ∷ rs) (suc i) = kind_at rs i
-
-case_at : (rs : List TypeRow) (i : ℕ) → get_or (map (λ (r : TypeRow). r.case) rs) i Entry ≡ (get_or rs i (type_row 0 Entry)).case
-case_at [] i = refl
-case_at (r ∷ rs) Prim.Native.Nat.zero = refl
-case_at (r ∷ rs) (suc i) = case_at rs i
-
-pub loop-i-init : goal.loop-i-init
-loop-i-init c = (omega arith, refl)
-
-pub returns-then-i-kind : goal.returns-then-i-kind
-returns-then-i-kind c =
-    let l = c.loop-i in
-    let k = c.args.kind in
-    let e : (get_or types l.i (type_row 0 Entry)).kind ≡ k = sym (kind_at types l.i) ∙ c.if-i-kind.true in
-    ap good (case_at types l.i) ∙ sym (l.invariant.1 ∙ hit types k l.i (omega arith) e)
-
-pub loop-i-preserved : goal.loop-i-preserved
-loop-i-preserved c =
-    let l = c.loop-i in
-    (omega arith, l.invariant.1 ∙ miss types c.args.kind l.i (omega arith) (λ e. c.if-i-kind.false (kind_at types l.i ∙ e)))
-
-pub returns : goal.returns
+entry : (k : ℕ) → (k ≡ 0x100) ⊎ (k ≡ 0x101) → good Entry ≡ find types k
 unfolding find
-returns c =
-    let l = c.loop-i in
-    let e : l.i ≡ length types = omega arith in
-    sym (l.invariant.1 ∙ ap (λ (n : ℕ). find (drop n types) c.args.kind) e)
+entry k (inl e) = rw e
+entry k (inr e) = rw e
+
+receipt : (k : ℕ) → (k ≡ 0x102) ⊎ (k ≡ 0x103) → good Receipt ≡ find types k
+unfolding find
+receipt k (inl e) = rw e
+receipt k (inr e) = rw e
+
+none : (k : ℕ) → (k ≡ 0x100 → ⊥) → (k ≡ 0x101 → ⊥) → (k ≡ 0x102 → ⊥) → (k ≡ 0x103 → ⊥) → (k ≡ 0x104 → ⊥) → (k ≡ 0x105 → ⊥) → (k ≡ 0x106 → ⊥) → (k ≡ 0xF001 → ⊥) → bad 4 0 ≡ find types k
+unfolding find
+none k n₀ n₁ n₂ n₃ n₄ n₅ n₆ n₇ =
+    rw (ne_eqb _ _ n₀, ne_eqb _ _ n₁, ne_eqb _ _ n₂, ne_eqb _ _ n₃, ne_eqb _ _ n₄, ne_eqb _ _ n₅, ne_eqb _ _ n₆, ne_eqb _ _ n₇)
+
+pub returns-in-256 : goal.returns-in-256
+returns-in-256 c = entry _ (two c.args.kind 0x100 (omega arith) (omega arith))
+
+pub returns-in-258 : goal.returns-in-258
+returns-in-258 c = receipt _ (two c.args.kind 0x102 (omega arith) (omega arith))
+
+pub returns-in-260 : goal.returns-in-260
+unfolding find
+returns-in-260 c = rw c.in-260.is
+
+pub returns-in-261 : goal.returns-in-261
+unfolding find
+returns-in-261 c = rw c.in-261.is
+
+pub returns-in-262 : goal.returns-in-262
+unfolding find
+returns-in-262 c = rw c.in-262.is
+
+pub returns-in-61441 : goal.returns-in-61441
+unfolding find
+returns-in-61441 c = rw c.in-61441.is
+
+pub returns-in_default : goal.returns-in_default
+returns-in_default c =
+    none c.args.kind (λ e. omega arith) (λ e. omega arith) (λ e. omega arith) (λ e. omega arith) (λ e. omega arith) (λ e. omega arith) (λ e. omega arith) (λ e. omega arith)
+
+pub returns-in_default-2 : goal.returns-in_default-2
+returns-in_default-2 c =
+    none c.args.kind (λ e. omega arith) (λ e. omega arith) (λ e. omega arith) (λ e. omega arith) (λ e. omega arith) (λ e. omega arith) (λ e. omega arith) (λ e. omega arith)

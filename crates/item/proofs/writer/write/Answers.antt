@@ -7,26 +7,25 @@ use native.Mathlib.Nat.{zero-add}
 use borrow.Author.Tests.{lt-ltb, le-ltb}
 use Rattle.item.specs.declared.table.Case.{Case}
 use Rattle.item.specs.declared.writer.Numbers.{Numbers}
-use Rattle.fields.specs.declared.writing.Fill.TheVariants.{Takes, Not}
 use Rattle.fields.specs.Checked.{Checked, good, bad}
 use Rattle.octets.specs.Numbers.{be}
 use Rattle.fields.specs.Write.{join, write}
 use Rattle.item.specs.Table.{names_of, types, find}
-use Rattle.item.specs.Item.{Vectors, vectors, filled, write_item}
+use Rattle.item.specs.Item.{Vectors, lent, filled, write_item}
 use Rattle.fields.specs.Effect.{unwritten, effect}
 use Rattle.fields.specs.Inner.{written, Good, ends}
 use Rattle.octets.specs.Bytes.{put, put_within}
 use Rattle.octets.proofs.Numbers.{be_length}
-use Rattle.fields.proofs.Filling.{not_takes, takes_not}
+use Rattle.fields.proofs.Answers.{bad_good, good_bad, passed_on}
 use Rattle.octets.proofs.Putting.{put_then, put_in}
 use Rattle.item.proofs.writer.write.Goals as goal
 
-ended : (a : Checked (List ℕ)) (m : ℕ) → ends 2 a ≡ Takes m → Good a × (m ≡ 2 + length (written a)) × (a ≡ good (written a))
+ended : (a : Checked (List ℕ)) (m : ℕ) → ends 2 a ≡ good m → Good a × (m ≡ 2 + length (written a)) × (a ≡ good (written a))
 ended (good b) m e = let z : 2 + length b ≡ m = cc in (tt, omega arith, refl)
-ended (bad x y) m e = not_takes x y m e
+ended (bad x y) m e = bad_good x y m e
 
-stopped : (a : Checked (List ℕ)) (x y k : ℕ) (out : List ℕ) → ends 2 a ≡ Not x y → effect out (join (be 2 k) a) ≡ unwritten x y out
-stopped (good b) x y k out e = takes_not x y (2 + length b) e
+stopped : (a : Checked (List ℕ)) (x y k : ℕ) (out : List ℕ) → ends 2 a ≡ bad x y → effect out (join (be 2 k) a) ≡ unwritten x y out
+stopped (good b) x y k out e = good_bad x y (2 + length b) e
 stopped (bad p q) x y k out e = let z : p ≡ x = cc in let w : q ≡ y = cc in rw (z, w)
 
 -- the cases of a whole item, over plain lists
@@ -40,10 +39,10 @@ module _ (k : ℕ) (n : Numbers) (t : Vectors) (out : List ℕ) where
     unfolding write_item
     whole = rw is
 
-    bad_field : (x y : ℕ) → ends 2 (write (filled n t (names_of c)) 2) ≡ Not x y → write_item k n t out ≡ unwritten x y out
+    bad_field : (x y : ℕ) → ends 2 (write (filled n t (names_of c)) 2) ≡ bad x y → write_item k n t out ≡ unwritten x y out
     bad_field x y e = whole ∙ stopped (write (filled n t (names_of c)) 2) x y k out e
 
-    module _ (m : ℕ) (e : ends 2 (write (filled n t (names_of c)) 2) ≡ Takes m) where
+    module _ (m : ℕ) (e : ends 2 (write (filled n t (names_of c)) 2) ≡ good m) where
       b : List ℕ
       b = written (write (filled n t (names_of c)) 2)
 
@@ -68,34 +67,29 @@ module _ (k : ℕ) (n : Numbers) (t : Vectors) (out : List ℕ) where
           ap (λ (j : ℕ). put (put out 0 (be 2 k)) j b) (sym (zero-add _ ∙ w)) ∙ put_then out (be 2 k) b 0 (omega arith) in
           rw (fits, le-ltb _ _ l) (ap good (sym z), q ∙ ap (λ (o : List ℕ). put o 2 b) (p ∙ put_in out (be 2 k) 0 (omega (arith, length-append (be 2 k) b))) ∙ s ∙ ap (λ (i : ℕ). (be 2 k ++ b) ++ drop i out) (zero-add (length (be 2 k ++ b))))
 
-pub returns-in-Unknown : goal.returns-in-Unknown
-returns-in-Unknown c =
+pub returns-in_default : goal.returns-in_default
+returns-in_default c =
     let a = c.args in
-    let t = vectors a.log.now a.issuer.now a.certificate.now a.root.now a.extensions.now a.signature.now a.path.now a.body.now in
-    rw (unknown a.kind a.numbers t a.out.now (sym c.in-Unknown.ensures)) (refl, refl)
+    rw (unknown a.kind a.numbers (lent a.vectors) a.out.now (sym c.in_default.ensures)) (refl, refl)
 
-pub returns-in-Not : goal.returns-in-Not
-returns-in-Not c =
+pub returns-in_err-end : goal.returns-in_err-end
+returns-in_err-end c =
     let a = c.args in
-    let t = vectors a.log.now a.issuer.now a.certificate.now a.root.now a.extensions.now a.signature.now a.path.now a.body.now in
-    rw (bad_field a.kind a.numbers t a.out.now c.in-As.case (sym c.in-As.ensures) _ _ (sym (c.in-Not.ensures a.numbers))) (refl, refl)
+    rw (passed_on _ _ c.from_residual.ensures.1, bad_field a.kind a.numbers (lent a.vectors) a.out.now c.in-Some.case (sym c.in-Some.ensures) _ _ (sym (c.in_err-end.ensures a.numbers))) (refl, refl)
 
 pub returns-then-out-end : goal.returns-then-out-end
 returns-then-out-end c =
     let a = c.args in
-    let t = vectors a.log.now a.issuer.now a.certificate.now a.root.now a.extensions.now a.signature.now a.path.now a.body.now in
-    rw (small a.kind a.numbers t a.out.now c.in-As.case (sym c.in-As.ensures) _ (sym (c.in-Takes.ensures a.numbers)) c.if-out-end.true) (refl, refl)
+    rw (small a.kind a.numbers (lent a.vectors) a.out.now c.in-Some.case (sym c.in-Some.ensures) _ (sym (c.in_ok-end.ensures a.numbers)) c.if-out-end.true) (refl, refl)
 
 pub put_all-requires : goal.put_all-requires
 put_all-requires c =
     let a = c.args in
-    let t = vectors a.log.now a.issuer.now a.certificate.now a.root.now a.extensions.now a.signature.now a.path.now a.body.now in
-    let g = ended (write (filled a.numbers t (names_of c.in-As.case)) 2) _ (sym (c.in-Takes.ensures a.numbers)) in
+    let g = ended (write (filled a.numbers (lent a.vectors) (names_of c.in-Some.case)) 2) _ (sym (c.in_ok-end.ensures a.numbers)) in
     (g.0, omega (arith, g.1, c.put_number.auto.out, c.if-out-end.false))
 
-pub returns-else-out-end : goal.returns-else-out-end
-returns-else-out-end c =
+pub returns : goal.returns
+returns c =
     let a = c.args in
-    let t = vectors a.log.now a.issuer.now a.certificate.now a.root.now a.extensions.now a.signature.now a.path.now a.body.now in
-    done a.kind a.numbers t a.out.now c.in-As.case (sym c.in-As.ensures) _ (sym (c.in-Takes.ensures a.numbers)) c.if-out-end.false
+    done a.kind a.numbers (lent a.vectors) a.out.now c.in-Some.case (sym c.in-Some.ensures) _ (sym (c.in_ok-end.ensures a.numbers)) c.if-out-end.false
     c.put_number.new.out c.put_all.new.out c.put_number.ensures c.put_all.ensures
