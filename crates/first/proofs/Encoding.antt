@@ -8,6 +8,7 @@ use Prim.Native.Nat.{ℕ, ◌^◌, ◌≤◌, ◌<◌}
 use native.Mathlib.Omega.{arith}
 use lib.ListN.{length, get_or}
 use Rattle.octets.specs.Bytes.{Bytes, joined}
+use Rattle.std.specs.Prelude.{Ok}
 use Rattle.fields.specs.declared.layout.Part.{Part}
 use Rattle.fields.specs.declared.layout.Inner.TheVariants.{Opaque}
 use Rattle.fields.specs.declared.layout.Field.TheVariants.{OneOf, Fixed}
@@ -142,11 +143,11 @@ numbers time size entry algorithms = record { timestamp = time; size = size; ent
 -- what was read, as an answer and as a caller takes it
 record Answered (e w : ℕ) (s : List ℕ) (r : Reading) : Type 0 where
   answer : First
-  says : reading answer ≡ good r
+  says : reading (Ok answer) ≡ good r
   given : Numbers
   bytes : Vectors
   sized : Sized given
-  taken : Taken s answer given bytes
+  taken : Taken s (Ok answer) given bytes
 
 module _ (e w : ℕ) (s : List ℕ) (bs : Bytes s) where
   module _ (l : Line) (ps : List Part) (q : read (layout_of l) s 0 ≡ good ps) where
@@ -210,7 +211,7 @@ module _ (e w : ℕ) (s : List ℕ) (bs : Bytes s) where
   forth (bad x y) q h = absurd h
   forth (good r) q h =
       let a = answered r.line r.fields (was_read e w s r q).fields in
-      let g = written_again e w s a.answer r a.given a.bytes bs a.says q a.taken in
+      let g = written_again e w s (Ok a.answer) r a.given a.bytes bs a.says q a.taken in
       encodes e w a.given a.bytes r.line s a.sized g.0 g.1
 
 -- the fields of a structure take their values

@@ -11,8 +11,7 @@ use Rattle.octets.specs.declared.number.Width.TheVariants.{One, Two}
 use Rattle.fields.specs.declared.layout.Field.{Field}
 use Rattle.fields.specs.declared.layout.Field.TheVariants.{OneOf}
 use Rattle.fields.specs.declared.layout.Part.{Part}
-use Rattle.fields.specs.declared.layout.FieldRead.TheVariants.{Found, Bad}
-use Rattle.fields.specs.Checked.{Checked, bad, then}
+use Rattle.fields.specs.Checked.{Checked, bad, then, good}
 use Rattle.fields.specs.Layout.{field, read}
 use Rattle.fields.specs.Write.{uint, bytes, fill, Filled, write}
 use Rattle.fields.proofs.Laid.{opaque_refuses, read_stops, read_goes, write_stops, write_goes}
@@ -35,10 +34,10 @@ refuses w s y fit n h =
     (λ l i. ap (λ (x : Checked (List Part)). then x (structure l)) (h l i)) (λ u. absurd (u n)))
 
 -- a byte that is not the one that is allowed, and one that is
-other_byte : (x b : ℕ) (r : List ℕ) (at : ℕ) → b < 256 → (b ≡ x → ⊥) → field (OneOf One x x) (be 1 b ++ r) at ≡ Bad 4 at
+other_byte : (x b : ℕ) (r : List ℕ) (at : ℕ) → b < 256 → (b ≡ x → ⊥) → field (OneOf One x x) (be 1 b ++ r) at ≡ bad 4 at
 other_byte x b r at fit h = ((one_of_judged One x x b r at).1 (λ low high. h (omega arith))).1 fit
 
-zero_byte : (r : List ℕ) (at : ℕ) → field (OneOf One 0 0) (be 1 0 ++ r) at ≡ Found (record { start = at; len = 1; value = 0 })
+zero_byte : (r : List ℕ) (at : ℕ) → field (OneOf One 0 0) (be 1 0 ++ r) at ≡ good (record { start = at; len = 1; value = 0 })
 zero_byte r at = ((one_of_judged One 0 0 0 r at).0 (omega arith) (omega arith)).1 (omega arith)
 
 version_stops : (l : Line) (b : ℕ) (r : List ℕ) → b < 256 → (b ≡ 0 → ⊥) → read (layout_of l) (be 1 b ++ r) 0 ≡ bad 4 0
@@ -65,7 +64,7 @@ entry_stops : (fs : List Field) (time k : ℕ) (r : List ℕ) → time < 2 ^ 64 
 unfolding be
 entry_stops fs time k r ht low fit =
     let s = be 1 0 ++ (be 1 0 ++ (be 8 time ++ (be 2 k ++ r))) in
-    let e : field entry_type_of (be 2 k ++ r) 10 ≡ Bad 4 10 = ((one_of_judged Two 0 1 k r 10).1 (λ u v. omega arith)).1 fit in
+    let e : field entry_type_of (be 2 k ++ r) 10 ≡ bad 4 10 = ((one_of_judged Two 0 1 k r 10).1 (λ u v. omega arith)).1 fit in
     behind_three time (entry_type_of ∷ fs) (be 2 k ++ r) 4 10 ht (read_stops entry_type_of fs s 10 4 10 e)
 
 -- what the fields of a line refuse, the writer does

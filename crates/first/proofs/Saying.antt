@@ -16,10 +16,11 @@ use Rattle.octets.specs.declared.number.Width.TheVariants.{Two}
 use Rattle.octets.specs.Numbers.{be}
 use Rattle.octets.proofs.Numbers.{unbe_be}
 use Rattle.octets.proofs.Order.{lt_or_ge}
+use Rattle.std.specs.Prelude.{Result, Ok, Err}
+use Rattle.fields.specs.declared.layout.RefusedAt.{RefusedAt}
 use Rattle.fields.specs.declared.layout.Part.{Part}
 use Rattle.fields.specs.declared.layout.Inner.TheVariants.{Opaque}
 use Rattle.fields.specs.declared.layout.Field.{Field}
-use Rattle.fields.specs.declared.layout.FieldRead.TheVariants.{Bad}
 use Rattle.fields.specs.Checked.{Checked, good, bad, then}
 use Rattle.fields.specs.Layout.{field, read, bytes_at}
 use Rattle.fields.specs.Write.{uint, wrap, Filled, write}
@@ -32,7 +33,7 @@ use Rattle.first.specs.declared.table.Line.{Line}
 use Rattle.first.specs.declared.table.Line.TheVariants.{X509Entry, PrecertEntry, CertificateTimestamp, TreeHead}
 use Rattle.first.specs.declared.reader.First.{First}
 use Rattle.first.specs.declared.reader.First.TheVariants.{X509Entry as x509_entry, PrecertEntry as precert_entry}
-use Rattle.first.specs.declared.reader.First.TheVariants.{CertificateTimestamp as certificate_timestamp, TreeHead as tree_head, Refused as refused}
+use Rattle.first.specs.declared.reader.First.TheVariants.{CertificateTimestamp as certificate_timestamp, TreeHead as tree_head}
 use Rattle.first.specs.declared.writer.Numbers.{Numbers}
 use Rattle.first.specs.Structures.{Structure, leaf, certificate_timestamp as timestamp_of, tree_head as head_of, x509, precert, opaque, field_bytes, encoded, Fits, name_of}
 use Rattle.first.specs.Table.{version, leaf_type, entry_type_of, timestamp, hash, certificate, extensions, layout_of}
@@ -53,15 +54,15 @@ by_hand = (refl, refl, refl, refl)
 pub read_says : ReadSays
 read_says e w s i bs q = go i q
   where
-    go : (i : First) → reading i ≡ read_first e w s → Says s i
-    go (refused x y) q = tt
-    go (x509_entry a b c d f g) q =
+    go : (i : Result First RefusedAt) → reading i ≡ read_first e w s → Says s i
+    go (Err u) q = tt
+    go (Ok (x509_entry a b c d f g)) q =
         let u = (was_read e w s _ (sym q)).fields in
         let l = leaf_read _ s a b c d _ u in
         let r = read_in_a_row (layout_of X509Entry) s 0 _ (omega arith) u in
         let n = numbers c.value 0 d.value 0 in
         let t = vectors [] [] (bytes_at s f) (bytes_at s g) [] [] in
-        let h = written_again e w s (x509_entry a b c d f g) _ n t bs refl (sym q) (refl, refl, refl, refl) in
+        let h = written_again e w s (Ok (x509_entry a b c d f g)) _ n t bs refl (sym q) (refl, refl, refl, refl) in
         let k = entry_is e w n t X509Entry s h.0 h.1 in
         let c₁ : c.start ≡ 2 = omega (arith, r.0, r.1, r.2.0, r.2.1, r.2.2.0) in
         let d₁ : d.start ≡ 10 = omega (arith, r.2.2.1, r.2.2.2.0) in
@@ -78,13 +79,13 @@ read_says e w s i bs q = go i q
           f₁,
           g₁,
         )
-    go (precert_entry a b c d f g j) q =
+    go (Ok (precert_entry a b c d f g j)) q =
         let u = (was_read e w s _ (sym q)).fields in
         let l = leaf_read _ s a b c d _ u in
         let r = read_in_a_row (layout_of PrecertEntry) s 0 _ (omega arith) u in
         let n = numbers c.value 0 d.value 0 in
         let t = vectors [] (bytes_at s f) (bytes_at s g) (bytes_at s j) [] [] in
-        let h = written_again e w s (precert_entry a b c d f g j) _ n t bs refl (sym q) (refl, refl, refl, refl, refl) in
+        let h = written_again e w s (Ok (precert_entry a b c d f g j)) _ n t bs refl (sym q) (refl, refl, refl, refl, refl) in
         let k = entry_is e w n t PrecertEntry s h.0 h.1 in
         let c₁ : c.start ≡ 2 = omega (arith, r.0, r.1, r.2.0, r.2.1, r.2.2.0) in
         let d₁ : d.start ≡ 10 = omega (arith, r.2.2.1, r.2.2.2.0) in
@@ -103,13 +104,13 @@ read_says e w s i bs q = go i q
           g₁,
           j₁,
         )
-    go (certificate_timestamp a b c d f g) q =
+    go (Ok (certificate_timestamp a b c d f g)) q =
         let u = (was_read e w s _ (sym q)).fields in
         let v = version_read _ s a _ u in
         let r = read_in_a_row (layout_of CertificateTimestamp) s 0 _ (omega arith) u in
         let n = numbers c.value 0 0 f.value in
         let t = vectors (bytes_at s b) [] [] (bytes_at s d) (bytes_at s g) [] in
-        let h = written_again e w s (certificate_timestamp a b c d f g) _ n t bs refl (sym q) (refl, refl, refl, refl, refl) in
+        let h = written_again e w s (Ok (certificate_timestamp a b c d f g)) _ n t bs refl (sym q) (refl, refl, refl, refl, refl) in
         let b₁ : b.start ≡ 1 = omega (arith, r.0, r.1, r.2.0) in
         let c₁ : c.start ≡ 33 = omega (arith, r.2.1, r.2.2.0) in
         let d₁ : d.start ≡ 43 = omega (arith, r.2.2.1, r.2.2.2.0) in
@@ -124,14 +125,14 @@ read_says e w s i bs q = go i q
           (f₁, r.2.2.2.2.1),
           g₁,
         )
-    go (tree_head a b c d f) q =
+    go (Ok (tree_head a b c d f)) q =
         let u = (was_read e w s _ (sym q)).fields in
         let v = version_read _ s a _ u in
         let y = type_read _ s 1 b _ v.1 in
         let r = read_in_a_row (layout_of TreeHead) s 0 _ (omega arith) u in
         let n = numbers c.value d.value 0 0 in
         let t = vectors [] [] [] [] [] (bytes_at s f) in
-        let h = written_again e w s (tree_head a b c d f) _ n t bs refl (sym q) (refl, refl, refl) in
+        let h = written_again e w s (Ok (tree_head a b c d f)) _ n t bs refl (sym q) (refl, refl, refl) in
         let b₁ : b.start ≡ 1 = omega (arith, r.0, r.1, r.2.0) in
         let c₁ : c.start ≡ 2 = omega (arith, r.2.1, r.2.2.0) in
         let d₁ : d.start ≡ 10 = omega (arith, r.2.2.1, r.2.2.2.0) in
@@ -281,7 +282,7 @@ over_there (timestamp_of l time x a g) b r f h = over_read (timestamp_of l time 
 over_there (head_of time m s) b r f h = over_read (head_of time m s) f b r h (is_head refl refl)
 
 -- a certificate without a byte
-empty_refused : (r : List ℕ) (at : ℕ) → field certificate (be 3 0 ++ r) at ≡ Bad 5 at
+empty_refused : (r : List ℕ) (at : ℕ) → field certificate (be 3 0 ++ r) at ≡ bad 5 at
 unfolding be
 empty_refused r at = vector_there 3 [] r (omega arith) 1 16777215 Opaque at
 

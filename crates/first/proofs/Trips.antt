@@ -8,6 +8,9 @@ use lib.Seq.{take_at}
 use borrow.Author.Tests.{le-ltb}
 use Rattle.octets.specs.Bytes.{Bytes}
 use Rattle.octets.specs.Limits.{most_item}
+use Rattle.std.specs.Prelude.{Result, Ok, Err}
+use Rattle.octets.specs.Refusals.{refusal_number}
+use Rattle.fields.specs.declared.layout.RefusedAt.{RefusedAt}
 use Rattle.fields.specs.declared.layout.Part.{Part}
 use Rattle.fields.specs.declared.layout.Field.{Field}
 use Rattle.fields.specs.declared.layout.Field.TheVariants.{OneOf}
@@ -30,7 +33,7 @@ use Rattle.first.specs.declared.table.Line.{Line}
 use Rattle.first.specs.declared.table.Line.TheVariants.{X509Entry, PrecertEntry, CertificateTimestamp, TreeHead}
 use Rattle.first.specs.declared.reader.First.{First}
 use Rattle.first.specs.declared.reader.First.TheVariants.{X509Entry as x509_entry, PrecertEntry as precert_entry}
-use Rattle.first.specs.declared.reader.First.TheVariants.{CertificateTimestamp as certificate_timestamp, TreeHead as tree_head, Refused as refused}
+use Rattle.first.specs.declared.reader.First.TheVariants.{CertificateTimestamp as certificate_timestamp, TreeHead as tree_head}
 use Rattle.first.specs.declared.writer.Numbers.{Numbers}
 use Rattle.first.specs.Table.{version, leaf_type, entry_type_of, timestamp, layout_of, line_of}
 use Rattle.first.specs.First.{Reading, reading, entry_at, read_first, Vectors, filled, write_first}
@@ -66,32 +69,32 @@ leaf_read fs s a b c d ps e =
 abbrev Given : ℕ → ℕ → List ℕ → Numbers → Vectors → Reading → Type 0
 Given e w s n t r = (filled n t r.line ≡ values (layout_of r.line) r.fields s) × LineIs e w n.entry_type r.line
 
-taken_filled : (e w : ℕ) (s : List ℕ) (i : First) (r : Reading) (n : Numbers) (t : Vectors) → reading i ≡ good r → WasRead e w s r → Taken s i n t → Given e w s n t r
+taken_filled : (e w : ℕ) (s : List ℕ) (i : Result First RefusedAt) (r : Reading) (n : Numbers) (t : Vectors) → reading i ≡ good r → WasRead e w s r → Taken s i n t → Given e w s n t r
 unfolding values opened unwrap
 taken_filled e w s i r n t q h k = go i q k
   where
     is : (r' : Reading) → good r' ≡ good r → (WasRead e w s r' → Given e w s n t r') → Given e w s n t r
     is r' q f = let z = same_good r' r q in subst (Given e w s n t) z (f (subst (WasRead e w s) (sym z) h))
 
-    go : (i : First) → reading i ≡ good r → Taken s i n t → Given e w s n t r
-    go (refused x y) q k = absurd k
-    go (x509_entry a b c d f g) q (h₀, h₁, h₂, h₃) =
+    go : (i : Result First RefusedAt) → reading i ≡ good r → Taken s i n t → Given e w s n t r
+    go (Err u) q k = absurd k
+    go (Ok (x509_entry a b c d f g)) q (h₀, h₁, h₂, h₃) =
         is _ q (λ u. let l = leaf_read _ s a b c d _ u.fields in (rw (l.0, l.1, h₀, h₁, h₂, h₃), subst (λ (j : ℕ). LineIs e w j X509Entry) (sym (h₁ ∙ l.2)) u.line))
-    go (precert_entry a b c d f g j) q (h₀, h₁, h₂, h₃, h₄) =
+    go (Ok (precert_entry a b c d f g j)) q (h₀, h₁, h₂, h₃, h₄) =
         is _ q (λ u. let l = leaf_read _ s a b c d _ u.fields in (rw (l.0, l.1, h₀, h₁, h₂, h₃, h₄), subst (λ (j : ℕ). LineIs e w j PrecertEntry) (sym (h₁ ∙ l.2)) u.line))
-    go (certificate_timestamp a b c d f g) q (h₀, h₁, h₂, h₃, h₄) =
+    go (Ok (certificate_timestamp a b c d f g)) q (h₀, h₁, h₂, h₃, h₄) =
         is _ q (λ u. let v = version_read _ s a _ u.fields in (rw (v.0, h₀, h₁, h₂, h₃, h₄), other u.line))
       where
         other : LineIs e w (entry_at s) CertificateTimestamp → LineIs e w n.entry_type CertificateTimestamp
         other (is_timestamp x y) = is_timestamp x y
-    go (tree_head a b c d f) q (h₀, h₁, h₂) =
+    go (Ok (tree_head a b c d f)) q (h₀, h₁, h₂) =
         is _ q (λ u. let v = version_read _ s a _ u.fields in let y = type_read _ s 1 b _ v.1 in (rw (v.0, y.0, h₀, h₁, h₂), other u.line))
       where
         other : LineIs e w (entry_at s) TreeHead → LineIs e w n.entry_type TreeHead
         other (is_head x y) = is_head x y
 
 -- what is read, written again, is the same bytes
-pub written_again : (e w : ℕ) (s : List ℕ) (i : First) (r : Reading) (n : Numbers) (t : Vectors) → Bytes s → reading i ≡ good r → read_first e w s ≡ good r → Taken s i n t → LineIs e w n.entry_type r.line × (write (filled n t r.line) 0 ≡ good s)
+pub written_again : (e w : ℕ) (s : List ℕ) (i : Result First RefusedAt) (r : Reading) (n : Numbers) (t : Vectors) → Bytes s → reading i ≡ good r → read_first e w s ≡ good r → Taken s i n t → LineIs e w n.entry_type r.line × (write (filled n t r.line) 0 ≡ good s)
 written_again e w s i r n t bs q d k =
     let h = was_read e w s r d in
     let g = taken_filled e w s i r n t q h k in
@@ -107,12 +110,12 @@ read_then_written e w s out i n t bs d k fit = go (reading i) refl d
         rw (is_line e w n.entry_type r.line g.0, g.1, le-ltb _ _ fit)
     go (bad x y) ha d = absurd (not_taken i ha k)
       where
-        not_taken : (i : First) → reading i ≡ bad x y → Taken s i n t → ⊥
-        not_taken (refused u v) e k = k
-        not_taken (x509_entry a b c d f g) e k = good_bad x y _ e
-        not_taken (precert_entry a b c d f g j) e k = good_bad x y _ e
-        not_taken (certificate_timestamp a b c d f g) e k = good_bad x y _ e
-        not_taken (tree_head a b c d f) e k = good_bad x y _ e
+        not_taken : (i : Result First RefusedAt) → reading i ≡ bad x y → Taken s i n t → ⊥
+        not_taken (Err u) e k = k
+        not_taken (Ok (x509_entry a b c d f g)) e k = good_bad x y _ e
+        not_taken (Ok (precert_entry a b c d f g j)) e k = good_bad x y _ e
+        not_taken (Ok (certificate_timestamp a b c d f g)) e k = good_bad x y _ e
+        not_taken (Ok (tree_head a b c d f)) e k = good_bad x y _ e
 
 -- every field of a line can hold what the writer is given for it
 pub all_typed : (fs : List Filled) → Each (λ (f : Filled). Typed f.field f.value) fs → AllTyped fs
@@ -189,19 +192,19 @@ was_written e w n t out m q =
     (λ u f. bad_good 4 0 p.bytes f) p.is
 
 -- what is found of a structure's fields is what a caller takes
-taken_back : (s : List ℕ) (i : First) (r : Reading) (n : Numbers) (t : Vectors) → reading i ≡ good r → values (layout_of r.line) r.fields s ≡ filled n t r.line → Taken s i n t
+taken_back : (s : List ℕ) (i : Result First RefusedAt) (r : Reading) (n : Numbers) (t : Vectors) → reading i ≡ good r → values (layout_of r.line) r.fields s ≡ filled n t r.line → Taken s i n t
 unfolding values opened unwrap number vector
 taken_back s i r n t q v = go i q
   where
     is : (r' : Reading) → good r' ≡ good r → filled n t r'.line ≡ values (layout_of r'.line) r'.fields s
     is r' q = subst (λ (x : Reading). filled n t x.line ≡ values (layout_of x.line) x.fields s) (sym (same_good r' r q)) (sym v)
 
-    go : (i : First) → reading i ≡ good r → Taken s i n t
-    go (refused x y) q = bad_good x y r q
-    go (x509_entry a b c d f g) q = let h = is _ q in (ap (number 2) h, ap (number 3) h, ap (vector 4) h, ap (vector 5) h)
-    go (precert_entry a b c d f g j) q = let h = is _ q in (ap (number 2) h, ap (number 3) h, ap (vector 4) h, ap (vector 5) h, ap (vector 6) h)
-    go (certificate_timestamp a b c d f g) q = let h = is _ q in (ap (vector 1) h, ap (number 2) h, ap (vector 3) h, ap (number 4) h, ap (vector 5) h)
-    go (tree_head a b c d f) q = let h = is _ q in (ap (number 2) h, ap (number 3) h, ap (vector 4) h)
+    go : (i : Result First RefusedAt) → reading i ≡ good r → Taken s i n t
+    go (Err u) q = bad_good (refusal_number u.refusal) u.place r q
+    go (Ok (x509_entry a b c d f g)) q = let h = is _ q in (ap (number 2) h, ap (number 3) h, ap (vector 4) h, ap (vector 5) h)
+    go (Ok (precert_entry a b c d f g j)) q = let h = is _ q in (ap (number 2) h, ap (number 3) h, ap (vector 4) h, ap (vector 5) h, ap (vector 6) h)
+    go (Ok (certificate_timestamp a b c d f g)) q = let h = is _ q in (ap (vector 1) h, ap (number 2) h, ap (vector 3) h, ap (number 4) h, ap (vector 5) h)
+    go (Ok (tree_head a b c d f)) q = let h = is _ q in (ap (number 2) h, ap (number 3) h, ap (vector 4) h)
 
 pub written_then_read : WrittenThenRead
 written_then_read e w n t out m i z q d =

@@ -1,5 +1,5 @@
 -- What is proved of whole structures beside the promises, in the words of the second demand. Assumes nothing: these are statements.
-use Rattle.std.specs.Prelude.{ℕ, ◌+◌, ◌^◌, ◌≤◌, ◌<◌, ◌≡◌, ◌↔◌, ◌≢◌, List, [], ◌∷◌, ◌++◌, cond, length, take, drop, eqb}
+use Rattle.std.specs.Prelude.{ℕ, ◌+◌, ◌^◌, ◌≤◌, ◌<◌, ◌≡◌, ◌↔◌, ◌≢◌, List, [], ◌∷◌, ◌++◌, cond, length, take, drop, eqb, Result, Ok, Err}
 use Rattle.octets.specs.Bytes.{Bytes}
 use Rattle.octets.specs.Limits.{most_item}
 use Rattle.octets.specs.Numbers.{be}
@@ -7,10 +7,11 @@ use Rattle.fields.specs.Checked.{Checked, good, bad}
 use Rattle.fields.specs.Layout.{bytes_at}
 use Rattle.fields.specs.Effect.{wrote}
 use Rattle.fields.specs.declared.layout.Part.{Part}
+use Rattle.fields.specs.declared.layout.RefusedAt.{RefusedAt}
 use Rattle.fields.specs.Claims.{Each, start_of}
 use Rattle.first.specs.declared.reader.First.{First}
 use Rattle.first.specs.declared.reader.First.TheVariants.{X509Entry as x509_entry, PrecertEntry as precert_entry}
-use Rattle.first.specs.declared.reader.First.TheVariants.{CertificateTimestamp as certificate_timestamp, TreeHead as tree_head, Refused as refused}
+use Rattle.first.specs.declared.reader.First.TheVariants.{CertificateTimestamp as certificate_timestamp, TreeHead as tree_head}
 use Rattle.first.specs.declared.writer.Numbers.{Numbers}
 use Rattle.first.specs.Structures.{Structure, leaf, certificate_timestamp as timestamp_of, tree_head as head_of, x509, precert}
 use Rattle.first.specs.Structures.{field_bytes, encoded, Fits, name_of}
@@ -18,24 +19,24 @@ use Rattle.first.specs.First.{Reading, reading, read_first, Vectors, write_first
 
 -- What a caller takes of the reader's answer and hands to the writer, with the same name: each number as it was answered, the other fields' bytes where they
 -- lie. Version, leaf type and signature type have one value each, and the writer is not given them.
-abbrev pub Taken : List ℕ → First → Numbers → Vectors → Type 0
-Taken s (x509_entry version leaf_type timestamp entry_type_of certificate extensions) n t =
+abbrev pub Taken : List ℕ → Result First RefusedAt → Numbers → Vectors → Type 0
+Taken s (Ok (x509_entry version leaf_type timestamp entry_type_of certificate extensions)) n t =
     (n.timestamp ≡ timestamp.value) × (n.entry_type ≡ entry_type_of.value) × (t.certificate ≡ bytes_at s certificate)
     × (t.extensions ≡ bytes_at s extensions)
-Taken s (precert_entry version leaf_type timestamp entry_type_of issuer_key_hash tbs_certificate extensions) n t =
+Taken s (Ok (precert_entry version leaf_type timestamp entry_type_of issuer_key_hash tbs_certificate extensions)) n t =
     (n.timestamp ≡ timestamp.value) × (n.entry_type ≡ entry_type_of.value) × (t.issuer_key_hash ≡ bytes_at s issuer_key_hash)
     × (t.certificate ≡ bytes_at s tbs_certificate) × (t.extensions ≡ bytes_at s extensions)
-Taken s (certificate_timestamp version log_id timestamp extensions algorithms signature) n t =
+Taken s (Ok (certificate_timestamp version log_id timestamp extensions algorithms signature)) n t =
     (t.log_id ≡ bytes_at s log_id) × (n.timestamp ≡ timestamp.value) × (t.extensions ≡ bytes_at s extensions) × (n.algorithms ≡ algorithms.value)
     × (t.signature ≡ bytes_at s signature)
-Taken s (tree_head version signature_type timestamp size root_hash) n t =
+Taken s (Ok (tree_head version signature_type timestamp size root_hash)) n t =
     (n.timestamp ≡ timestamp.value) × (n.size ≡ size.value) × (t.root_hash ≡ bytes_at s root_hash)
-Taken s (refused number place) n t = ⊥
+Taken s (Err e) n t = ⊥
 
 -- what is read, written again, is the same bytes
 abbrev pub ReadThenWritten : Type 0
 ReadThenWritten =
-    (e w : ℕ) (s out : List ℕ) (i : First) (n : Numbers) (t : Vectors) → Bytes s → reading i ≡ read_first e w s → Taken s i n t → length s ≤ length out
+    (e w : ℕ) (s out : List ℕ) (i : Result First RefusedAt) (n : Numbers) (t : Vectors) → Bytes s → reading i ≡ read_first e w s → Taken s i n t → length s ≤ length out
     → write_first e w n t out ≡ wrote s out
 
 -- numbers as wide as the writer takes them
@@ -48,7 +49,7 @@ pub record Sized (n : Numbers) : Type 0 where
 -- what is written reads back as the same fields
 abbrev pub WrittenThenRead : Type 0
 WrittenThenRead =
-    (e w : ℕ) (n : Numbers) (t : Vectors) (out : List ℕ) (m : ℕ) (i : First) → Sized n → (write_first e w n t out).answer ≡ good m
+    (e w : ℕ) (n : Numbers) (t : Vectors) (out : List ℕ) (m : ℕ) (i : Result First RefusedAt) → Sized n → (write_first e w n t out).answer ≡ good m
     → reading i ≡ read_first e w (take m (write_first e w n t out).bytes) → Taken (take m (write_first e w n t out).bytes) i n t
 
 -- a refusal of the writer changes no byte; otherwise the bytes past those written stay
@@ -105,28 +106,28 @@ abbrev pub LiesAt : Part → ℕ → ℕ → Type 0
 LiesAt p start len = (p.start ≡ start) × (p.len ≡ len)
 
 -- what the reader answers is the structure that the bytes are, each field by its name and at its place; a vector's bytes lie behind its length
-abbrev pub Says : List ℕ → First → Type 0
-Says s (x509_entry version leaf_type timestamp entry_type_of certificate extensions) =
+abbrev pub Says : List ℕ → Result First RefusedAt → Type 0
+Says s (Ok (x509_entry version leaf_type timestamp entry_type_of certificate extensions)) =
     (s ≡ encoded (leaf timestamp.value (x509 (bytes_at s certificate)) (bytes_at s extensions)))
     × LiesAt version 0 1 × (version.value ≡ 0) × LiesAt leaf_type 1 1 × (leaf_type.value ≡ 0) × LiesAt timestamp 2 8
     × LiesAt entry_type_of 10 2 × (entry_type_of.value ≡ 0) × (certificate.start ≡ 15) × (extensions.start ≡ 17 + certificate.len)
-Says s (precert_entry version leaf_type timestamp entry_type_of issuer_key_hash tbs_certificate extensions) =
+Says s (Ok (precert_entry version leaf_type timestamp entry_type_of issuer_key_hash tbs_certificate extensions)) =
     (s ≡ encoded (leaf timestamp.value (precert (bytes_at s issuer_key_hash) (bytes_at s tbs_certificate)) (bytes_at s extensions)))
     × LiesAt version 0 1 × (version.value ≡ 0) × LiesAt leaf_type 1 1 × (leaf_type.value ≡ 0) × LiesAt timestamp 2 8
     × LiesAt entry_type_of 10 2 × (entry_type_of.value ≡ 1) × LiesAt issuer_key_hash 12 32 × (tbs_certificate.start ≡ 47)
     × (extensions.start ≡ 49 + tbs_certificate.len)
-Says s (certificate_timestamp version log_id timestamp extensions algorithms signature) =
+Says s (Ok (certificate_timestamp version log_id timestamp extensions algorithms signature)) =
     (s ≡ encoded (timestamp_of (bytes_at s log_id) timestamp.value (bytes_at s extensions) algorithms.value (bytes_at s signature)))
     × LiesAt version 0 1 × (version.value ≡ 0) × LiesAt log_id 1 32 × LiesAt timestamp 33 8 × (extensions.start ≡ 43)
     × LiesAt algorithms (43 + extensions.len) 2 × (signature.start ≡ 47 + extensions.len)
-Says s (tree_head version signature_type timestamp size root_hash) =
+Says s (Ok (tree_head version signature_type timestamp size root_hash)) =
     (s ≡ encoded (head_of timestamp.value size.value (bytes_at s root_hash)))
     × LiesAt version 0 1 × (version.value ≡ 0) × LiesAt signature_type 1 1 × (signature_type.value ≡ 1) × LiesAt timestamp 2 8 × LiesAt size 10 8
     × LiesAt root_hash 18 32
-Says s (refused number place) = Unit
+Says s (Err e) = Unit
 
 abbrev pub ReadSays : Type 0
-ReadSays = (e w : ℕ) (s : List ℕ) (i : First) → Bytes s → reading i ≡ read_first e w s → Says s i
+ReadSays = (e w : ℕ) (s : List ℕ) (i : Result First RefusedAt) → Bytes s → reading i ≡ read_first e w s → Says s i
 
 -- a structure that is cut is refused with 2 where the field starts that is cut, and one with bytes behind it with 3 where these start
 abbrev pub CutThere : Type 0

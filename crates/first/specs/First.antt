@@ -1,8 +1,10 @@
 -- Whole structures: what the reader answers and what the writer writes (RFC 6962, sections 3.2 to 3.5; document 02, request 6). Assumes nothing.
-use Rattle.std.specs.Prelude.{ℕ, List, [], ◌∷◌, cond, length, take, drop, ltb}
+use Rattle.std.specs.Prelude.{ℕ, List, [], ◌∷◌, cond, length, take, drop, ltb, Result, Ok, Err}
 use Rattle.octets.specs.Limits.{most_item}
 use Rattle.octets.specs.Numbers.{unbe}
+use Rattle.octets.specs.Refusals.{refusal_number}
 use Rattle.fields.specs.declared.layout.Part.{Part}
+use Rattle.fields.specs.declared.layout.RefusedAt.{RefusedAt}
 use Rattle.fields.specs.declared.layout.Field.{Field}
 use Rattle.fields.specs.Checked.{Checked, good, bad, then}
 use Rattle.fields.specs.Layout.{read}
@@ -12,8 +14,9 @@ use Rattle.first.specs.declared.table.Line.{Line}
 use Rattle.first.specs.declared.table.Line.TheVariants.{X509Entry, PrecertEntry, CertificateTimestamp, TreeHead}
 use Rattle.first.specs.declared.reader.First.{First}
 use Rattle.first.specs.declared.reader.First.TheVariants.{X509Entry as x509_entry, PrecertEntry as precert_entry}
-use Rattle.first.specs.declared.reader.First.TheVariants.{CertificateTimestamp as certificate_timestamp, TreeHead as tree_head, Refused as refused}
+use Rattle.first.specs.declared.reader.First.TheVariants.{CertificateTimestamp as certificate_timestamp, TreeHead as tree_head}
 use Rattle.first.specs.declared.writer.Numbers.{Numbers}
+use Rattle.first.specs.declared.writer.Vectors.{Vectors as Slices}
 use Rattle.first.specs.Table.{version, leaf_type, entry_type_of, signature_type, timestamp, size, algorithms, hash, certificate, extensions, signature}
 use Rattle.first.specs.Table.{layout_of, line_of}
 
@@ -26,16 +29,16 @@ abbrev pub structure : Line → List Part → Checked Reading
 structure l ps = good (record { line = l; fields = ps })
 
 -- what each case of the reader's answer says
-abbrev pub reading : First → Checked Reading
-reading (x509_entry version leaf_type timestamp entry_type_of certificate extensions) =
+abbrev pub reading : Result First RefusedAt → Checked Reading
+reading (Ok (x509_entry version leaf_type timestamp entry_type_of certificate extensions)) =
     structure X509Entry (version ∷ leaf_type ∷ timestamp ∷ entry_type_of ∷ certificate ∷ extensions ∷ [])
-reading (precert_entry version leaf_type timestamp entry_type_of issuer_key_hash tbs_certificate extensions) =
+reading (Ok (precert_entry version leaf_type timestamp entry_type_of issuer_key_hash tbs_certificate extensions)) =
     structure PrecertEntry (version ∷ leaf_type ∷ timestamp ∷ entry_type_of ∷ issuer_key_hash ∷ tbs_certificate ∷ extensions ∷ [])
-reading (certificate_timestamp version log_id timestamp extensions algorithms signature) =
+reading (Ok (certificate_timestamp version log_id timestamp extensions algorithms signature)) =
     structure CertificateTimestamp (version ∷ log_id ∷ timestamp ∷ extensions ∷ algorithms ∷ signature ∷ [])
-reading (tree_head version signature_type timestamp size root_hash) =
+reading (Ok (tree_head version signature_type timestamp size root_hash)) =
     structure TreeHead (version ∷ signature_type ∷ timestamp ∷ size ∷ root_hash ∷ [])
-reading (refused number place) = bad number place
+reading (Err e) = bad (refusal_number e.refusal) e.place
 
 -- the number in the bytes where a leaf's entry type stands, behind version, leaf type and timestamp
 abbrev pub entry_at : List ℕ → ℕ
@@ -58,6 +61,10 @@ pub record Vectors : Type 0 where
 
 abbrev pub vectors : List ℕ → List ℕ → List ℕ → List ℕ → List ℕ → List ℕ → Vectors
 vectors l i c x g r = record { log_id = l; issuer_key_hash = i; certificate = c; extensions = x; signature = g; root_hash = r }
+
+-- what stands behind the code's slices
+abbrev pub lent : Slices → Vectors
+lent v = vectors v.log_id.now v.issuer_key_hash.now v.certificate.now v.extensions.now v.signature.now v.root_hash.now
 
 abbrev number : Field → ℕ → Filled
 number f n = record { field = f; value = uint n }

@@ -15,7 +15,7 @@ ghost use Rattle.first.specs.Claims.{LongFirst, NameNext, RoomLast, FourThere, F
 
 pub use reader::{First, read};
 pub use table::{MERKLE_TREE_LEAF, RFC_6962, SIGNED_CERTIFICATE_TIMESTAMP, TREE_HEAD};
-pub use writer::{Numbers, write};
+pub use writer::{Numbers, Vectors, write};
 
 // What is proved of reader and writer beside their own promises, as the second demand asks. It does nothing.
 pub fn claims()

@@ -28,12 +28,6 @@ pub enum Line {
     TreeHead,
 }
 
-#[derive(Clone, Copy)]
-pub enum Known {
-    As(Line),
-    Unknown,
-}
-
 const VERSION: Field = Field::OneOf {
     width: Width::One,
     least: 0,
@@ -88,25 +82,19 @@ const SIGNATURE: Field = Field::Vector {
 };
 
 // The line of a structure that has such a name; of a leaf by its entry type, and any but a precertificate's has the line of a certificate.
-pub(crate) fn line_of(edition: u16, which: u16, entry: u16) -> Known
+pub(crate) fn line_of(edition: u16, which: u16, entry: u16) -> Option<Line>
     ensures { known result ≡ line_of edition which entry }
 {
     if edition != RFC_6962 {
-        return Known::Unknown;
+        return None;
     }
-    if which == MERKLE_TREE_LEAF {
-        if entry == PRECERT_ENTRY {
-            return Known::As(Line::PrecertEntry);
-        }
-        return Known::As(Line::X509Entry);
+    match which {
+        MERKLE_TREE_LEAF if entry == PRECERT_ENTRY => Some(Line::PrecertEntry),
+        MERKLE_TREE_LEAF => Some(Line::X509Entry),
+        SIGNED_CERTIFICATE_TIMESTAMP => Some(Line::CertificateTimestamp),
+        TREE_HEAD => Some(Line::TreeHead),
+        _ => None,
     }
-    if which == SIGNED_CERTIFICATE_TIMESTAMP {
-        return Known::As(Line::CertificateTimestamp);
-    }
-    if which == TREE_HEAD {
-        return Known::As(Line::TreeHead);
-    }
-    Known::Unknown
 }
 
 pub(crate) fn count_of(line: Line) -> usize

@@ -1,12 +1,14 @@
 // Writing a whole structure: its name first, then left to right, then the room.
 ghost use Rattle.std.specs.Prelude.{◌≡◌};
+ghost use Rattle.fields.specs.Checked.{checked};
 ghost use Rattle.fields.specs.Write.{write as write_fields};
-ghost use Rattle.fields.specs.Effect.{writing, effect};
-ghost use Rattle.first.specs.First.{vectors, filled, write_first};
+ghost use Rattle.fields.specs.Effect.{effect};
+ghost use Rattle.first.specs.First.{lent, filled, write_first};
 
-use crate::table::{Known, Line, count_of, layout_of, line_of};
+use crate::table::{Line, count_of, layout_of, line_of};
 use fields::laying::write_layout;
-use fields::writing::Written;
+use fields::layout::RefusedAt;
+use octets::refusal::Refusal;
 
 // Every number that some structure has, but for version, leaf type and signature type, which have one value each.
 #[derive(Clone, Copy)]
@@ -17,147 +19,107 @@ pub struct Numbers {
     pub algorithms: u16,
 }
 
+// The bytes of every field that is no number; `certificate` is the certificate, or the TBS certificate of a precertificate.
+#[derive(Clone, Copy)]
+pub struct Vectors<'a> {
+    pub log_id: &'a [u8],
+    pub issuer_key_hash: &'a [u8],
+    pub certificate: &'a [u8],
+    pub extensions: &'a [u8],
+    pub signature: &'a [u8],
+    pub root_hash: &'a [u8],
+}
+
 // The fields of a line. What stands at the place of a number, or behind the last field, is not looked at.
 fn write_line<'a>(
     line: Line,
     numbers: Numbers,
-    log: &'a [u8],
-    issuer: &'a [u8],
-    certificate: &'a [u8],
-    extensions: &'a [u8],
-    signature: &'a [u8],
-    root: &'a [u8],
+    vectors: Vectors<'a>,
     out: &mut [u8],
-) -> Written
-    ensures { let t = vectors log.now issuer.now certificate.now extensions.now
-        signature.now root.now in
-        let o = effect out.old (write_fields (filled numbers t line) 0) in
-        (writing result ≡ o.answer) × (out.new ≡ o.bytes) }
+) -> Result<usize, RefusedAt>
+    ensures { let o = effect out.old (write_fields (filled numbers (lent vectors.entry) line) 0) in
+        (checked result ≡ o.answer) × (out.new ≡ o.bytes) }
 {
     let layout = layout_of(line);
     let n = count_of(line);
+    let time = numbers.timestamp;
+    let entry = numbers.entry_type as u64;
+    let any = vectors.log_id;
     match line {
         Line::X509Entry => write_layout(
             layout,
             n,
+            [0, 0, time, entry, 0, 0, 0, 0],
             [
-                0,
-                0,
-                numbers.timestamp,
-                numbers.entry_type as u64,
-                0,
-                0,
-                0,
-                0,
+                any,
+                any,
+                any,
+                any,
+                vectors.certificate,
+                vectors.extensions,
+                any,
+                any,
             ],
-            log,
-            log,
-            log,
-            log,
-            certificate,
-            extensions,
-            log,
-            log,
             out,
         ),
         Line::PrecertEntry => write_layout(
             layout,
             n,
+            [0, 0, time, entry, 0, 0, 0, 0],
             [
-                0,
-                0,
-                numbers.timestamp,
-                numbers.entry_type as u64,
-                0,
-                0,
-                0,
-                0,
+                any,
+                any,
+                any,
+                any,
+                vectors.issuer_key_hash,
+                vectors.certificate,
+                vectors.extensions,
+                any,
             ],
-            log,
-            log,
-            log,
-            log,
-            issuer,
-            certificate,
-            extensions,
-            log,
             out,
         ),
         Line::CertificateTimestamp => write_layout(
             layout,
             n,
+            [0, 0, time, 0, numbers.algorithms as u64, 0, 0, 0],
             [
-                0,
-                0,
-                numbers.timestamp,
-                0,
-                numbers.algorithms as u64,
-                0,
-                0,
-                0,
+                any,
+                vectors.log_id,
+                any,
+                vectors.extensions,
+                any,
+                vectors.signature,
+                any,
+                any,
             ],
-            log,
-            log,
-            log,
-            extensions,
-            log,
-            signature,
-            log,
-            log,
             out,
         ),
         Line::TreeHead => write_layout(
             layout,
             n,
-            [0, 1, numbers.timestamp, numbers.size, 0, 0, 0, 0],
-            log,
-            log,
-            log,
-            log,
-            root,
-            log,
-            log,
-            log,
+            [0, 1, time, numbers.size, 0, 0, 0, 0],
+            [any, any, any, any, vectors.root_hash, any, any, any],
             out,
         ),
     }
 }
 
-// Writes the named structure; a leaf's line goes by the entry type. A field that the structure lacks is not looked at; `certificate` is the certificate, or
-// the TBS certificate of a precertificate.
+// Writes the named structure; a leaf's line goes by the entry type. A field that the structure lacks is not looked at.
 pub fn write<'a>(
     edition: u16,
     which: u16,
     numbers: Numbers,
-    log: &'a [u8],
-    issuer: &'a [u8],
-    certificate: &'a [u8],
-    extensions: &'a [u8],
-    signature: &'a [u8],
-    root: &'a [u8],
+    vectors: Vectors<'a>,
     out: &mut [u8],
-) -> Written
-    ensures { let t = vectors log.now issuer.now certificate.now extensions.now
-        signature.now root.now in
-        let o = write_first edition which numbers t out.old in
-        (writing result ≡ o.answer) × (out.new ≡ o.bytes) }
+) -> Result<usize, RefusedAt>
+    ensures { let o = write_first edition which numbers (lent vectors.entry) out.old in
+        (checked result ≡ o.answer) × (out.new ≡ o.bytes) }
 {
-    let known = line_of(edition, which, numbers.entry_type);
-    match known {
-        Known::Unknown => Written::Refused {
-            number: 4,
+    let Some(line) = line_of(edition, which, numbers.entry_type) else {
+        return Err(RefusedAt {
+            refusal: Refusal::UnknownType,
             place: 0,
-        },
-        Known::As(line) => write_line(
-            line,
-            numbers,
-            log,
-            issuer,
-            certificate,
-            extensions,
-            signature,
-            root,
-            out,
-        ),
-    }
+        });
+    };
+    write_line(line, numbers, vectors, out)
 }

@@ -30,13 +30,13 @@ module _ (e w : ℕ) (s : List ℕ) where
 pub returns-then-s-gt-MOST_ITEM : goal.returns-then-s-gt-MOST_ITEM
 returns-then-s-gt-MOST_ITEM c = let a = c.args in long a.edition a.which a.s.now (omega arith)
 
-pub returns-in-Unknown : goal.returns-in-Unknown
-returns-in-Unknown c =
+pub returns-in_default : goal.returns-in_default
+returns-in_default c =
     let a = c.args in
-    unknown a.edition a.which a.s.now (omega arith) c.number_at-entry.result c.number_at-entry.ensures.0 (sym c.in-Unknown.ensures)
+    unknown a.edition a.which a.s.now (omega arith) c.number_at-entry.result c.number_at-entry.ensures.0 (sym c.in_default.ensures)
 
-pub returns-in-As : goal.returns-in-As
-returns-in-As c =
+pub returns : goal.returns
+returns c =
     let a = c.args in
     c.read_fields.ensures
-    ∙ known a.edition a.which a.s.now (omega arith) c.number_at-entry.result c.number_at-entry.ensures.0 _ (sym c.in-As.ensures)
+    ∙ known a.edition a.which a.s.now (omega arith) c.number_at-entry.result c.number_at-entry.ensures.0 _ (sym c.in-Some.ensures)

@@ -1,42 +1,37 @@
-use mathlib.Core.Path.{◌≡◌, ap, sym, ◌∙◌}
+use mathlib.Core.Path.{◌≡◌, ap, sym, subst, ◌∙◌}
 use mathlib.Core.List.{List}
 use Prim.Native.Nat.{ℕ}
-use native.Mathlib.Omega.{arith}
-use lib.ListN.{take}
+use lib.ListN.{length, take}
+use Rattle.std.specs.Prelude.{Result, Ok, Err}
 use Rattle.fields.specs.declared.layout.Part.{Part}
 use Rattle.fields.specs.declared.layout.Field.{Field}
+use Rattle.fields.specs.declared.reading.LayoutRefused.{LayoutRefused}
 use Rattle.fields.specs.Checked.{Checked, then}
 use Rattle.fields.specs.Layout.{read, parts_found}
-use Rattle.fields.specs.Answers.{layout_read}
-use Rattle.fields.proofs.Telling.{told_eight, told_refused, told_read}
+use Rattle.fields.specs.Answers.{layout_read, told_of}
+use Rattle.fields.proofs.Telling.{told_refused, told_read}
+use Rattle.first.specs.declared.table.Line.{Line}
 use Rattle.first.specs.Table.{layout_of}
 use Rattle.first.specs.First.{structure}
-use Rattle.first.proofs.Lines.{count_small}
-use Rattle.first.proofs.reader.read_fields.Goals.{After-read_layout-r}
 use Rattle.first.proofs.reader.read_fields.Goals as goal
 
--- what was read of the line's own layout
-said : (c : After-read_layout-r) → c.read_layout-r.result ≡ layout_read (parts_found (layout_of c.args.line) c.args.s.now 0) (read (layout_of c.args.line) c.args.s.now 0)
-said c =
-    c.read_layout-r.ensures
-    ∙ ap (λ (fs : List Field). layout_read (parts_found fs c.args.s.now 0) (read fs c.args.s.now 0))
-    (ap (λ (k : ℕ). take k c.layout_of-layout.result) c.count_of-n.ensures ∙ c.layout_of-layout.ensures)
+-- what is said of the fields of an array that the line has is said of the line's own layout
+said : (l : Line) (n : ℕ) (fs : List Field) (s : List ℕ) (r : Result (List Part) LayoutRefused) → n ≡ length (layout_of l) → take (length (layout_of l)) fs ≡ layout_of l
+    → told_of (length (take n fs)) r ≡ layout_read (parts_found (take n fs) s 0) (read (take n fs) s 0)
+    → told_of (length (layout_of l)) r ≡ layout_read (parts_found (layout_of l) s 0) (read (layout_of l) s 0)
+said l n fs s r c e q =
+    subst (λ (gs : List Field). told_of (length gs) r ≡ layout_read (parts_found gs s 0) (read gs s 0)) (ap (λ (k : ℕ). take k fs) c ∙ e) q
 
-pub returns-then-number-ne0 : goal.returns-then-number-ne0
-returns-then-number-ne0 c =
+pub returns-in-Err : goal.returns-in-Err
+returns-in-Err c =
     let a = c.args in
-    let t = said (goal.at.returns-then-number-ne0 c).After-read_layout-r in
-    sym (ap (λ (x : Checked (List Part)). then x (structure a.line)) (told_refused (layout_of a.line) a.s.now 0 c.read_layout-r.result t c.if-number-ne0.true))
+    let r = c.in-Err.e in
+    let t = said a.line c.count_of-n.result c.layout_of-layout.result a.s.now (Err r) c.count_of-n.ensures c.layout_of-layout.ensures c.in-Err.ensures in
+    sym (ap (λ (x : Checked (List Part)). then x (structure a.line)) (told_refused (layout_of a.line) a.s.now 0 r t))
 
-pub named-requires : goal.named-requires
-named-requires c =
+pub returns-in-Ok : goal.returns-in-Ok
+returns-in-Ok c =
     let a = c.args in
-    let t = said (goal.at.named-requires c).After-read_layout-r in
-    told_eight (layout_of a.line) a.s.now 0 c.read_layout-r.result t (omega (arith, count_small a.line))
-
-pub returns : goal.returns
-returns c =
-    let a = c.args in
-    let t = said (goal.at.returns c).After-read_layout-r in
-    c.named.ensures
-    ∙ sym (ap (λ (x : Checked (List Part)). then x (structure a.line)) (told_read (layout_of a.line) a.s.now 0 c.read_layout-r.result t (omega arith)))
+    let ps = c.in-Ok.parts in
+    let t = said a.line c.count_of-n.result c.layout_of-layout.result a.s.now (Ok ps) c.count_of-n.ensures c.layout_of-layout.ensures c.in-Ok.ensures in
+    c.named.ensures ∙ sym (ap (λ (x : Checked (List Part)). then x (structure a.line)) (told_read (layout_of a.line) a.s.now 0 ps t))

@@ -1,5 +1,6 @@
 use mathlib.Core.Path.{◌≡◌}
 use Prim.Native.Nat.{ℕ}
+use native.Mathlib.Omega.{arith}
 use borrow.Author.Tests.{eq-eqb, ne_eqb}
 use Rattle.fields.specs.Checked.{good, bad}
 use Rattle.first.specs.declared.table.Line.TheVariants.{X509Entry, PrecertEntry, CertificateTimestamp, TreeHead}
@@ -20,13 +21,13 @@ module _ (e w k : ℕ) where
     unfolding line_of
     x509 h g = rw (eq-eqb _ _ edition, eq-eqb _ _ h, ne_eqb _ _ g)
 
-    timestamp : (w ≡ 1 → ⊥) → w ≡ 2 → good CertificateTimestamp ≡ line_of e w k
+    timestamp : w ≡ 2 → good CertificateTimestamp ≡ line_of e w k
     unfolding line_of
-    timestamp h g = rw (eq-eqb _ _ edition, ne_eqb _ 1 h, eq-eqb _ _ g)
+    timestamp h = rw (eq-eqb _ _ edition, h)
 
-    head : (w ≡ 1 → ⊥) → (w ≡ 2 → ⊥) → w ≡ 3 → good TreeHead ≡ line_of e w k
+    head : w ≡ 3 → good TreeHead ≡ line_of e w k
     unfolding line_of
-    head h g f = rw (eq-eqb _ _ edition, ne_eqb _ 1 h, ne_eqb _ 2 g, eq-eqb _ _ f)
+    head h = rw (eq-eqb _ _ edition, h)
 
     none : (w ≡ 1 → ⊥) → (w ≡ 2 → ⊥) → (w ≡ 3 → ⊥) → bad 4 0 ≡ line_of e w k
     unfolding line_of
@@ -35,17 +36,17 @@ module _ (e w k : ℕ) where
 pub returns-then-edition-ne-RFC_6962 : goal.returns-then-edition-ne-RFC_6962
 returns-then-edition-ne-RFC_6962 c = other_edition _ _ _ c.if-edition-ne-RFC_6962.true
 
-pub returns-then-entry-eq-PRECERT_ENTRY : goal.returns-then-entry-eq-PRECERT_ENTRY
-returns-then-entry-eq-PRECERT_ENTRY c = precert _ _ _ c.if-edition-ne-RFC_6962.false c.if-which-eq-MERKLE_TREE_LEAF.true c.if-entry-eq-PRECERT_ENTRY.true
+pub returns-in-1 : goal.returns-in-1
+returns-in-1 c = precert _ _ _ c.if-edition-ne-RFC_6962.false c.in-1.is c.if-entry-eq-PRECERT_ENTRY.true
 
-pub returns-then-which-eq-MERKLE_TREE_LEAF : goal.returns-then-which-eq-MERKLE_TREE_LEAF
-returns-then-which-eq-MERKLE_TREE_LEAF c = x509 _ _ _ c.if-edition-ne-RFC_6962.false c.if-which-eq-MERKLE_TREE_LEAF.true c.if-entry-eq-PRECERT_ENTRY.false
+pub returns-in-1-2 : goal.returns-in-1-2
+returns-in-1-2 c = x509 _ _ _ c.if-edition-ne-RFC_6962.false c.in-1.is c.if-entry-eq-PRECERT_ENTRY.false
 
-pub returns-then-which-eq-SIGNED_CERTIFICATE_TIMESTAMP : goal.returns-then-which-eq-SIGNED_CERTIFICATE_TIMESTAMP
-returns-then-which-eq-SIGNED_CERTIFICATE_TIMESTAMP c = timestamp _ _ _ c.if-edition-ne-RFC_6962.false c.if-which-eq-MERKLE_TREE_LEAF.false c.if-which-eq-SIGNED_CERTIFICATE_TIMESTAMP.true
+pub returns-in-2 : goal.returns-in-2
+returns-in-2 c = timestamp _ _ _ c.if-edition-ne-RFC_6962.false c.in-2.is
 
-pub returns-then-which-eq-TREE_HEAD : goal.returns-then-which-eq-TREE_HEAD
-returns-then-which-eq-TREE_HEAD c = head _ _ _ c.if-edition-ne-RFC_6962.false c.if-which-eq-MERKLE_TREE_LEAF.false c.if-which-eq-SIGNED_CERTIFICATE_TIMESTAMP.false c.if-which-eq-TREE_HEAD.true
+pub returns-in-3 : goal.returns-in-3
+returns-in-3 c = head _ _ _ c.if-edition-ne-RFC_6962.false c.in-3.is
 
-pub returns : goal.returns
-returns c = none _ _ _ c.if-edition-ne-RFC_6962.false c.if-which-eq-MERKLE_TREE_LEAF.false c.if-which-eq-SIGNED_CERTIFICATE_TIMESTAMP.false c.if-which-eq-TREE_HEAD.false
+pub returns-in_default : goal.returns-in_default
+returns-in_default c = none _ _ _ c.if-edition-ne-RFC_6962.false (λ e. omega arith) (λ e. omega arith) (λ e. omega arith)

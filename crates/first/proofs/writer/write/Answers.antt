@@ -7,7 +7,7 @@ use Rattle.fields.specs.Effect.{Effect, unwritten, effect}
 use Rattle.first.specs.declared.table.Line.{Line}
 use Rattle.first.specs.declared.writer.Numbers.{Numbers}
 use Rattle.first.specs.Table.{line_of}
-use Rattle.first.specs.First.{Vectors, vectors, filled, write_first}
+use Rattle.first.specs.First.{Vectors, lent, filled, write_first}
 use Rattle.first.proofs.writer.write.Goals as goal
 
 -- the cases of a structure, over plain lists
@@ -20,14 +20,14 @@ module _ (e w : ℕ) (n : Numbers) (t : Vectors) (out : List ℕ) where
   unfolding write_first
   known l h = rw h
 
-pub returns-in-Unknown : goal.returns-in-Unknown
-returns-in-Unknown c =
+pub returns-in_default : goal.returns-in_default
+returns-in_default c =
     let s = c.args in
-    rw (unknown s.edition s.which s.numbers (vectors s.log.now s.issuer.now s.certificate.now s.extensions.now s.signature.now s.root.now) s.out.now (sym c.in-Unknown.ensures)) (refl, refl)
+    rw (unknown s.edition s.which s.numbers (lent s.vectors) s.out.now (sym c.in_default.ensures)) (refl, refl)
 
-pub returns-in-As : goal.returns-in-As
-returns-in-As c =
+pub returns : goal.returns
+returns c =
     let s = c.args in
     let r = c.write_line.ensures in
-    let q = known s.edition s.which s.numbers (vectors s.log.now s.issuer.now s.certificate.now s.extensions.now s.signature.now s.root.now) s.out.now _ (sym c.in-As.ensures) in
+    let q = known s.edition s.which s.numbers (lent s.vectors) s.out.now _ (sym c.in-Some.ensures) in
     (r.0 ∙ ap (λ (o : Effect). o.answer) q, r.1 ∙ ap (λ (o : Effect). o.bytes) q)
