@@ -2,8 +2,7 @@
 use crate::answers::{Answer, keep, one, strings, then, words};
 use crate::request::{Numbers, short};
 use crate::structures;
-use fields::layout::Part;
-use fields::writing::Written;
+use fields::layout::{Part, RefusedAt};
 use item::Item;
 
 // How a field is answered: by where its bytes start and how many they are, or by the number that it is.
@@ -127,11 +126,6 @@ fn any(found: Item) -> Answer {
         } => four(
             kind, NUMBER, timestamp, NUMBER, agreement, NUMBER, page, body,
         ),
-        Item::Refused {
-            number,
-            place,
-            met: _,
-        } => numbered(number as u64, place as u64),
         _ => statement(found),
     }
 }
@@ -148,10 +142,10 @@ fn numbers(n: Numbers) -> item::Numbers {
     }
 }
 
-pub(crate) fn written(w: Written) -> Answer {
+pub(crate) fn written(w: Result<usize, RefusedAt>) -> Answer {
     match w {
-        Written::Length(count) => words(0, 0, count as u64),
-        Written::Refused { number, place } => words(number as u64, place as u64, 0),
+        Ok(count) => words(0, 0, count as u64),
+        Err(e) => words(u64::from(u32::from(e.refusal)), e.place as u64, 0),
     }
 }
 
@@ -170,31 +164,11 @@ fn path_into(n: Numbers, a: &[u8], lent: &mut [u8]) -> Answer {
     written(fields::path::path_into(a, path, lent))
 }
 
-fn write<'a>(
-    n: Numbers,
-    id: &'a [u8],
-    key: &'a [u8],
-    certificate: &'a [u8],
-    extensions: &'a [u8],
-    signature: &'a [u8],
-    root: &'a [u8],
-    path: &'a [u8],
-    body: &'a [u8],
-    lent: &mut [u8],
-) -> Answer {
-    written(item::write(
-        short(n.a),
-        numbers(n),
-        id,
-        key,
-        certificate,
-        root,
-        extensions,
-        signature,
-        path,
-        body,
-        lent,
-    ))
+fn read(bytes: &[u8]) -> Answer {
+    match item::read(bytes) {
+        Ok(found) => any(found),
+        Err(e) => numbered(u64::from(u32::from(e.refusal)), e.place as u64),
+    }
 }
 
 pub(crate) fn answer<'a>(
@@ -211,11 +185,33 @@ pub(crate) fn answer<'a>(
     lent: &mut [u8],
 ) -> Answer {
     match entry {
-        b'a' => any(item::read(a)),
-        b'b' => write(n, a, b, c, d, e, f, g, h, lent),
+        b'a' => read(a),
+        b'b' => {
+            let vectors = item::Vectors {
+                log_id: a,
+                issuer_key_hash: b,
+                certificate: c,
+                extensions: d,
+                signature: e,
+                root_hash: f,
+                path: g,
+                body: h,
+            };
+            written(item::write(short(n.a), numbers(n), vectors, lent))
+        }
         b'c' => newer(a, b, lent),
         b'd' => path_into(n, a, lent),
         b'e' => structures::read(n, a),
-        _ => structures::write(n, a, b, c, d, e, f, lent),
+        _ => {
+            let vectors = first::Vectors {
+                log_id: a,
+                issuer_key_hash: b,
+                certificate: c,
+                extensions: d,
+                signature: e,
+                root_hash: f,
+            };
+            structures::write(n, vectors, lent)
+        }
     }
 }

@@ -29,7 +29,6 @@ fn head(which: u16, found: First) -> Answer {
             let timed = part(typed, NUMBER, timestamp);
             part(part(timed, NUMBER, size), VECTOR, root_hash)
         }
-        First::Refused { number, place } => numbered(number as u64, place as u64),
         _ => numbered(0, 0),
     }
 }
@@ -93,29 +92,12 @@ fn numbers(n: Numbers) -> first::Numbers {
 
 pub(crate) fn read(n: Numbers, bytes: &[u8]) -> Answer {
     let which = short(n.b);
-    any(which, first::read(short(n.a), which, bytes))
+    match first::read(short(n.a), which, bytes) {
+        Ok(found) => any(which, found),
+        Err(e) => numbered(u64::from(u32::from(e.refusal)), e.place as u64),
+    }
 }
 
-pub(crate) fn write<'a>(
-    n: Numbers,
-    id: &'a [u8],
-    key: &'a [u8],
-    certificate: &'a [u8],
-    extensions: &'a [u8],
-    signature: &'a [u8],
-    root: &'a [u8],
-    lent: &mut [u8],
-) -> Answer {
-    written(first::write(
-        short(n.a),
-        short(n.b),
-        numbers(n),
-        id,
-        key,
-        certificate,
-        extensions,
-        signature,
-        root,
-        lent,
-    ))
+pub(crate) fn write<'a>(n: Numbers, vectors: first::Vectors<'a>, lent: &mut [u8]) -> Answer {
+    written(first::write(short(n.a), short(n.b), numbers(n), vectors, lent))
 }

@@ -1,9 +1,8 @@
 // Pages of agreements, as items of type 0xF001.
 use crate::bytes::{Made, blank, part};
 use crate::say::{count, words};
-use fields::layout::Part;
-use fields::writing::Written;
-use item::{Item, Numbers};
+use fields::layout::{Part, RefusedAt};
+use item::{Item, Numbers, Vectors};
 use std::io;
 
 const PAGE: u16 = 0xF001;
@@ -23,15 +22,15 @@ fn numbers(agreement: u64, page: u16) -> Numbers {
     }
 }
 
-fn made(written: Written, bytes: [u8; 256]) -> Made {
+fn made(written: Result<usize, RefusedAt>, bytes: [u8; 256]) -> Made {
     match written {
-        Written::Length(len) => Made {
+        Ok(len) => Made {
             number: 0,
             len,
             bytes,
         },
-        Written::Refused { number, place: _ } => Made {
-            number,
+        Err(e) => Made {
+            number: u32::from(e.refusal),
             len: 0,
             bytes,
         },
@@ -42,19 +41,17 @@ fn made(written: Written, bytes: [u8; 256]) -> Made {
 pub(crate) fn page(agreement: u64, page: u16, body: &[u8]) -> Made {
     let mut bytes = blank();
     let none: &[u8] = b"";
-    let written = item::write(
-        PAGE,
-        numbers(agreement, page),
-        none,
-        none,
-        none,
-        none,
-        none,
-        none,
-        none,
+    let vectors = Vectors {
+        log_id: none,
+        issuer_key_hash: none,
+        certificate: none,
+        root_hash: none,
+        extensions: none,
+        signature: none,
+        path: none,
         body,
-        &mut bytes,
-    );
+    };
+    let written = item::write(PAGE, numbers(agreement, page), vectors, &mut bytes);
     made(written, bytes)
 }
 
@@ -80,15 +77,16 @@ fn no_page(rt: &impl Print) -> io::Result<u32> {
 
 // Prints what stands on a page, as the reader of items finds it. 4: it is no page.
 pub(crate) fn tell(rt: &impl Print, page: &[u8]) -> io::Result<u32> {
-    let found = item::read(page);
-    match found {
-        Item::Page {
-            kind: _,
-            timestamp: _,
-            agreement,
-            page: sheet,
-            body,
-        } => tell_fields(rt, page, agreement, sheet, body),
+    match item::read(page) {
+        Ok(
+            Item::Page {
+                kind: _,
+                timestamp: _,
+                agreement,
+                page: sheet,
+                body,
+            },
+        ) => tell_fields(rt, page, agreement, sheet, body),
         _ => no_page(rt),
     }
 }

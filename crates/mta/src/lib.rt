@@ -10,9 +10,8 @@ ghost use Rattle.hash.specs.Answers.{most_input, into_number, into_bytes};
 ghost use Rattle.tree.specs.Verdict.{inclusion_verdict, consistency_verdict};
 ghost use Rattle.octets.specs.Answer.{number};
 ghost use Rattle.tree.specs.Build.{building, build_report, output, refused as not_built, root_built};
-ghost use Rattle.fields.specs.Effect.{writing};
-ghost use Rattle.item.specs.Item.{reading, read_item};
-ghost use Rattle.first.specs.First.{reading as reading_first, read_first};
+ghost use Rattle.item.specs.Item.{read_item};
+ghost use Rattle.first.specs.First.{read_first};
 ghost use Rattle.carry.specs.Forward.{carry, refused as not_carried, path_carried, pair_carried, carry_report};
 ghost use Rattle.carry.specs.Compare.{compare, refused as not_compared, compare_report, pair_compared};
 ghost use Rattle.mta.specs.Entries.{written_after, collided_after, differed_after, number_of, place_of, length_after, sizes_of, consistency_written};
@@ -23,11 +22,9 @@ ghost use Rattle.sm3.specs.Sm3 as sm;
 
 use carry::compare::Compared;
 use carry::forward::Carried;
-use fields::writing::Written;
-use first::First;
 use hash::by_number::UNKNOWN;
 use hash::{Algorithm, Digest, Named, algorithm_of};
-use item::{Item, Numbers};
+use item::{Numbers, Vectors};
 use tree::build::Built;
 use words::State;
 
@@ -160,128 +157,22 @@ fn built(b: Built) -> u32
     }
 }
 
-#[derive(Clone, Copy)]
-struct Refusal {
-    number: u32,
-    place: usize,
-}
-
-fn not_refused() -> Refusal
-    ensures { (result.number ≡ 0) × (result.place ≡ 0) }
-{
-    Refusal {
-        number: 0,
-        place: 0,
-    }
-}
-
-// What the reader refuses, by its number and place; 0 and 0 of an item that was read.
-fn refused(i: Item) -> Refusal
-    ensures { (result.number ≡ number_of (reading i)) × (result.place ≡ place_of (reading i)) }
-{
-    match i {
-        Item::Entry {
-            kind: _,
-            timestamp: _,
-            issuer_key_hash: _,
-            certificate: _,
-            extensions: _,
-        } => not_refused(),
-        Item::Receipt {
-            kind: _,
-            log_id: _,
-            timestamp: _,
-            extensions: _,
-            signature: _,
-        } => not_refused(),
-        Item::SignedHead {
-            kind: _,
-            log_id: _,
-            timestamp: _,
-            size: _,
-            root_hash: _,
-            extensions: _,
-            signature: _,
-        } => not_refused(),
-        Item::Consistency {
-            kind: _,
-            log_id: _,
-            size_one: _,
-            size_two: _,
-            path: _,
-        } => not_refused(),
-        Item::Inclusion {
-            kind: _,
-            log_id: _,
-            size: _,
-            place: _,
-            path: _,
-        } => not_refused(),
-        Item::Page {
-            kind: _,
-            timestamp: _,
-            agreement: _,
-            page: _,
-            body: _,
-        } => not_refused(),
-        Item::Refused {
-            number,
-            place,
-            met: _,
-        } => Refusal { number, place },
-    }
-}
-
-// The same of a structure of the first edition.
-fn first_refused(f: First) -> Refusal
-    ensures { (result.number ≡ number_of (reading_first f)) × (result.place ≡ place_of (reading_first f)) }
-{
-    match f {
-        First::X509Entry {
-            version: _,
-            leaf_type: _,
-            timestamp: _,
-            entry_type: _,
-            certificate: _,
-            extensions: _,
-        } => not_refused(),
-        First::PrecertEntry {
-            version: _,
-            leaf_type: _,
-            timestamp: _,
-            entry_type: _,
-            issuer_key_hash: _,
-            tbs_certificate: _,
-            extensions: _,
-        } => not_refused(),
-        First::CertificateTimestamp {
-            version: _,
-            log_id: _,
-            timestamp: _,
-            extensions: _,
-            algorithms: _,
-            signature: _,
-        } => not_refused(),
-        First::TreeHead {
-            version: _,
-            signature_type: _,
-            timestamp: _,
-            size: _,
-            root_hash: _,
-        } => not_refused(),
-        First::Refused { number, place } => Refusal { number, place },
-    }
-}
-
 // Reads an item: 0, or the number of the refusal, whose place is left in `place`.
 #[unsafe(no_mangle)]
 pub extern "C" fn mta_item(s: &[u8], place: &mut u64) -> u32
     ensures { let o = read_item s.now in
         (result ≡ number_of o) × (place.new ≡ place_of o) }
 {
-    let r = refused(item::read(s));
-    *place = r.place as u64;
-    r.number
+    match item::read(s) {
+        Ok(_) => {
+            *place = 0;
+            0
+        }
+        Err(refused) => {
+            *place = refused.place as u64;
+            u32::from(refused.refusal)
+        }
+    }
 }
 
 // Reads a structure of the first edition (RFC 6962), which its two numbers name: 0, or the number of the refusal, whose place is left in `place`.
@@ -290,9 +181,16 @@ pub extern "C" fn mta_first(edition: u16, which: u16, s: &[u8], place: &mut u64)
     ensures { let o = read_first edition which s.now in
         (result ≡ number_of o) × (place.new ≡ place_of o) }
 {
-    let r = first_refused(first::read(edition, which, s));
-    *place = r.place as u64;
-    r.number
+    match first::read(edition, which, s) {
+        Ok(_) => {
+            *place = 0;
+            0
+        }
+        Err(e) => {
+            *place = e.place as u64;
+            u32::from(e.refusal)
+        }
+    }
 }
 
 // The numbers of a consistency item.
@@ -327,24 +225,22 @@ pub extern "C" fn mta_consistency_item<'a>(
         × (written.new ≡ length_after o.answer written.old)) }
 {
     let empty = &log[..0];
-    match item::write(
-        0x0105,
-        sizes(first, second),
-        log,
-        empty,
-        empty,
-        empty,
-        empty,
-        empty,
+    let vectors = Vectors {
+        log_id: log,
+        issuer_key_hash: empty,
+        certificate: empty,
+        root_hash: empty,
+        extensions: empty,
+        signature: empty,
         path,
-        empty,
-        out,
-    ) {
-        Written::Length(length) => {
+        body: empty,
+    };
+    match item::write(0x0105, sizes(first, second), vectors, out) {
+        Ok(length) => {
             *written = length as u64;
             0
         }
-        Written::Refused { number, place: _ } => number,
+        Err(e) => u32::from(e.refusal),
     }
 }
 
