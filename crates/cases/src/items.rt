@@ -4,77 +4,72 @@ use crate::request::{Numbers, short};
 use crate::structures;
 use fields::layout::{Part, RefusedAt};
 use item::Item;
+use octets::refusal::Refusal;
 
-// How a field is answered: by where its bytes start and how many they are, or by the number that it is.
-pub(crate) const VECTOR: bool = true;
+// A field as it is answered: by where its bytes start and how many they are, or by the number that it is.
+#[derive(Clone, Copy)]
+pub(crate) enum Said {
+    Bytes(Part),
+    Number(Part),
+}
 
-pub(crate) const NUMBER: bool = false;
-
-// An answer of two numbers, to which more may come.
-pub(crate) fn numbered(a: u64, b: u64) -> Answer {
-    Answer {
+// An answer of two numbers, and of fields in their order.
+pub(crate) fn told(a: u64, b: u64, fields: &[Said]) -> Answer {
+    let mut said = Answer {
         count: 2,
         number: [a, b, 0, 0, 0, 0, 0, 0, 0, 0, 0, 0],
         mid: 0,
         end: 0,
         last: 0,
+    };
+    for field in fields {
+        said = match *field {
+            Said::Bytes(p) => then(then(said, p.start as u64), p.len as u64),
+            Said::Number(p) => then(said, p.value),
+        };
     }
+    said
 }
 
-pub(crate) fn part(a: Answer, vector: bool, p: Part) -> Answer {
-    if vector {
-        return then(then(a, p.start as u64), p.len as u64);
-    }
-    then(a, p.value)
+// A refusal and its place.
+pub(crate) fn refused(refusal: Refusal, place: usize) -> Answer {
+    told(u64::from(u32::from(refusal)), place as u64, &[])
 }
 
-// No refusal, the type of an item, and its first four fields.
-fn four(
-    kind: u16,
-    one: bool,
-    a: Part,
-    two: bool,
-    b: Part,
-    three: bool,
-    c: Part,
-    d: Part,
-) -> Answer {
-    let start = numbered(0, kind as u64);
-    part(part(part(part(start, one, a), two, b), three, c), VECTOR, d)
-}
-
-fn proof(found: Item) -> Answer {
+// No refusal, the type of an item, and its fields.
+fn any(found: Item) -> Answer {
     match found {
-        Item::Consistency {
+        Item::Entry {
             kind,
-            log_id,
-            size_one,
-            size_two,
-            path,
-        } => four(
-            kind, VECTOR, log_id, NUMBER, size_one, NUMBER, size_two, path,
+            timestamp,
+            issuer_key_hash,
+            certificate,
+            extensions,
+        } => told(
+            0,
+            kind as u64,
+            &[
+                Said::Number(timestamp),
+                Said::Bytes(issuer_key_hash),
+                Said::Bytes(certificate),
+                Said::Bytes(extensions),
+            ],
         ),
-        Item::Inclusion {
-            kind,
-            log_id,
-            size,
-            place,
-            path,
-        } => four(kind, VECTOR, log_id, NUMBER, size, NUMBER, place, path),
-        _ => numbered(0, 0),
-    }
-}
-
-fn statement(found: Item) -> Answer {
-    match found {
         Item::Receipt {
             kind,
             log_id,
             timestamp,
             extensions,
             signature,
-        } => four(
-            kind, VECTOR, log_id, NUMBER, timestamp, VECTOR, extensions, signature,
+        } => told(
+            0,
+            kind as u64,
+            &[
+                Said::Bytes(log_id),
+                Said::Number(timestamp),
+                Said::Bytes(extensions),
+                Said::Bytes(signature),
+            ],
         ),
         Item::SignedHead {
             kind,
@@ -84,38 +79,49 @@ fn statement(found: Item) -> Answer {
             root_hash,
             extensions,
             signature,
-        } => part(
-            part(
-                four(
-                    kind, VECTOR, log_id, NUMBER, timestamp, NUMBER, size, root_hash,
-                ),
-                VECTOR,
-                extensions,
-            ),
-            VECTOR,
-            signature,
+        } => told(
+            0,
+            kind as u64,
+            &[
+                Said::Bytes(log_id),
+                Said::Number(timestamp),
+                Said::Number(size),
+                Said::Bytes(root_hash),
+                Said::Bytes(extensions),
+                Said::Bytes(signature),
+            ],
         ),
-        _ => proof(found),
-    }
-}
-
-fn any(found: Item) -> Answer {
-    match found {
-        Item::Entry {
+        Item::Consistency {
             kind,
-            timestamp,
-            issuer_key_hash,
-            certificate,
-            extensions,
-        } => four(
+            log_id,
+            size_one,
+            size_two,
+            path,
+        } => told(
+            0,
+            kind as u64,
+            &[
+                Said::Bytes(log_id),
+                Said::Number(size_one),
+                Said::Number(size_two),
+                Said::Bytes(path),
+            ],
+        ),
+        Item::Inclusion {
             kind,
-            NUMBER,
-            timestamp,
-            VECTOR,
-            issuer_key_hash,
-            VECTOR,
-            certificate,
-            extensions,
+            log_id,
+            size,
+            place,
+            path,
+        } => told(
+            0,
+            kind as u64,
+            &[
+                Said::Bytes(log_id),
+                Said::Number(size),
+                Said::Number(place),
+                Said::Bytes(path),
+            ],
         ),
         Item::Page {
             kind,
@@ -123,10 +129,16 @@ fn any(found: Item) -> Answer {
             agreement,
             page,
             body,
-        } => four(
-            kind, NUMBER, timestamp, NUMBER, agreement, NUMBER, page, body,
+        } => told(
+            0,
+            kind as u64,
+            &[
+                Said::Number(timestamp),
+                Said::Number(agreement),
+                Said::Number(page),
+                Said::Bytes(body),
+            ],
         ),
-        _ => statement(found),
     }
 }
 
@@ -167,7 +179,7 @@ fn path_into(n: Numbers, a: &[u8], lent: &mut [u8]) -> Answer {
 fn read(bytes: &[u8]) -> Answer {
     match item::read(bytes) {
         Ok(found) => any(found),
-        Err(e) => numbered(u64::from(u32::from(e.refusal)), e.place as u64),
+        Err(e) => refused(e.refusal, e.place),
     }
 }
 

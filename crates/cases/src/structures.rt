@@ -1,56 +1,10 @@
 // What the entries of the crate first call.
 use crate::answers::Answer;
-use crate::items::{NUMBER, VECTOR, numbered, part, written};
+use crate::items::{Said, refused, told, written};
 use crate::request::{Numbers, short};
-use fields::layout::Part;
 use first::First;
 
-// No refusal, the name of a structure, and its version.
-fn start(which: u16, version: Part) -> Answer {
-    part(numbered(0, which as u64), NUMBER, version)
-}
-
-// The first four fields of a leaf.
-fn leaf(which: u16, version: Part, leaf_type: Part, timestamp: Part, entry_type: Part) -> Answer {
-    let typed = part(start(which, version), NUMBER, leaf_type);
-    part(part(typed, NUMBER, timestamp), NUMBER, entry_type)
-}
-
-fn head(which: u16, found: First) -> Answer {
-    match found {
-        First::TreeHead {
-            version,
-            signature_type,
-            timestamp,
-            size,
-            root_hash,
-        } => {
-            let typed = part(start(which, version), NUMBER, signature_type);
-            let timed = part(typed, NUMBER, timestamp);
-            part(part(timed, NUMBER, size), VECTOR, root_hash)
-        }
-        _ => numbered(0, 0),
-    }
-}
-
-fn certificate_timestamp(which: u16, found: First) -> Answer {
-    match found {
-        First::CertificateTimestamp {
-            version,
-            log_id,
-            timestamp,
-            extensions,
-            algorithms,
-            signature,
-        } => {
-            let logged = part(start(which, version), VECTOR, log_id);
-            let extended = part(part(logged, NUMBER, timestamp), VECTOR, extensions);
-            part(part(extended, NUMBER, algorithms), VECTOR, signature)
-        }
-        _ => head(which, found),
-    }
-}
-
+// No refusal, the name of a structure, and its fields.
 fn any(which: u16, found: First) -> Answer {
     match found {
         First::X509Entry {
@@ -60,10 +14,18 @@ fn any(which: u16, found: First) -> Answer {
             entry_type,
             certificate,
             extensions,
-        } => {
-            let entry = leaf(which, version, leaf_type, timestamp, entry_type);
-            part(part(entry, VECTOR, certificate), VECTOR, extensions)
-        }
+        } => told(
+            0,
+            which as u64,
+            &[
+                Said::Number(version),
+                Said::Number(leaf_type),
+                Said::Number(timestamp),
+                Said::Number(entry_type),
+                Said::Bytes(certificate),
+                Said::Bytes(extensions),
+            ],
+        ),
         First::PrecertEntry {
             version,
             leaf_type,
@@ -72,12 +34,55 @@ fn any(which: u16, found: First) -> Answer {
             issuer_key_hash,
             tbs_certificate,
             extensions,
-        } => {
-            let entry = leaf(which, version, leaf_type, timestamp, entry_type);
-            let issued = part(entry, VECTOR, issuer_key_hash);
-            part(part(issued, VECTOR, tbs_certificate), VECTOR, extensions)
-        }
-        _ => certificate_timestamp(which, found),
+        } => told(
+            0,
+            which as u64,
+            &[
+                Said::Number(version),
+                Said::Number(leaf_type),
+                Said::Number(timestamp),
+                Said::Number(entry_type),
+                Said::Bytes(issuer_key_hash),
+                Said::Bytes(tbs_certificate),
+                Said::Bytes(extensions),
+            ],
+        ),
+        First::CertificateTimestamp {
+            version,
+            log_id,
+            timestamp,
+            extensions,
+            algorithms,
+            signature,
+        } => told(
+            0,
+            which as u64,
+            &[
+                Said::Number(version),
+                Said::Bytes(log_id),
+                Said::Number(timestamp),
+                Said::Bytes(extensions),
+                Said::Number(algorithms),
+                Said::Bytes(signature),
+            ],
+        ),
+        First::TreeHead {
+            version,
+            signature_type,
+            timestamp,
+            size,
+            root_hash,
+        } => told(
+            0,
+            which as u64,
+            &[
+                Said::Number(version),
+                Said::Number(signature_type),
+                Said::Number(timestamp),
+                Said::Number(size),
+                Said::Bytes(root_hash),
+            ],
+        ),
     }
 }
 
@@ -94,7 +99,7 @@ pub(crate) fn read(n: Numbers, bytes: &[u8]) -> Answer {
     let which = short(n.b);
     match first::read(short(n.a), which, bytes) {
         Ok(found) => any(which, found),
-        Err(e) => numbered(u64::from(u32::from(e.refusal)), e.place as u64),
+        Err(e) => refused(e.refusal, e.place),
     }
 }
 
