@@ -71,6 +71,7 @@ fn put_all<'a>(
     }
 }
 
+// Kept: a count, and a layout beside its numbers and values: the reader takes the same layout and count.
 // Writes the first `count` fields of a layout to the start of a lent buffer; a count above the most is the most. Field i is filled with number i or with
 // value i, and the one that its kind has no use for is not looked at. Its first bad field is refused where it would start, then 9 at 0.
 pub fn write_layout<'a>(

@@ -27,6 +27,7 @@ pub(crate) fn counted(count: usize) -> usize
     count.min(MOST_FIELDS)
 }
 
+// Kept: a count beside the array: one above the most is the most, and edits `count_ignored` and `layout_count_ignored` speak of it.
 // Where the first `count` fields of a layout lie, in its order, from a place on; a count above the most is the most. Parts behind these are zeros.
 pub fn read_layout(
     s: &[u8],

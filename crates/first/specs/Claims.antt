@@ -36,8 +36,8 @@ Taken s (Err e) n t = ⊥
 -- what is read, written again, is the same bytes
 abbrev pub ReadThenWritten : Type 0
 ReadThenWritten =
-    (e w : ℕ) (s out : List ℕ) (i : Result First RefusedAt) (n : Numbers) (t : Vectors) → Bytes s → reading i ≡ read_first e w s → Taken s i n t → length s ≤ length out
-    → write_first e w n t out ≡ wrote s out
+    (e w : ℕ) (s out : List ℕ) (i : Result First RefusedAt) (n : Numbers) (t : Vectors)
+    → Bytes s → reading i ≡ read_first e w s → Taken s i n t → length s ≤ length out → write_first e w n t out ≡ wrote s out
 
 -- numbers as wide as the writer takes them
 pub record Sized (n : Numbers) : Type 0 where

@@ -108,6 +108,7 @@ pub(crate) fn count_of(line: Line) -> usize
     }
 }
 
+// Kept: an array and a count, as `read_layout` and `write_layout` take them.
 // The fields of a line in their order; past the last one it is repeated.
 pub(crate) fn layout_of(line: Line) -> [Field; MOST_FIELDS]
     ensures { take (length (layout_of line)) result ≡ layout_of line }

@@ -151,8 +151,8 @@ Copied s p w = path_at s p ≡ good w
 -- both round trips as a caller makes them
 abbrev pub TakenThenWritten : Type 0
 TakenThenWritten =
-    (s out : List ℕ) (i : Result Item ItemRefused) (k : ℕ) (n : Numbers) (t : Vectors) → Bytes s → reading i ≡ read_item s → Taken (Copied s) s i k n t → length s ≤ length out
-    → write_item k n t out ≡ wrote s out
+    (s out : List ℕ) (i : Result Item ItemRefused) (k : ℕ) (n : Numbers) (t : Vectors)
+    → Bytes s → reading i ≡ read_item s → Taken (Copied s) s i k n t → length s ≤ length out → write_item k n t out ≡ wrote s out
 
 abbrev pub WrittenThenTaken : Type 0
 WrittenThenTaken =

@@ -85,6 +85,7 @@ fn bytes_of<'a>(name: Name, vectors: Vectors<'a>) -> &'a [u8]
     }
 }
 
+// Kept: two walks of its own beside those of `fields::laying`: places start behind the type, and edit `writer_skips_a_field` speaks of them.
 // The first pass: where the item ends, or its first refusal. No number of an item is judged, so none is looked at.
 fn measure<'a>(case: Case, vectors: Vectors<'a>) -> Result<usize, RefusedAt>
     ensures { (n : Numbers) → checked result ≡ ends 2 (write_fields (filled n (lent vectors.entry) (names_of case)) 2) }
