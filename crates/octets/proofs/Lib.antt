@@ -3,3 +3,4 @@ pub mod Sameness
 pub mod Joining
 pub mod Putting
 pub mod Numbers
+pub mod Refusals

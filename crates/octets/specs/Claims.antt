@@ -1,7 +1,11 @@
--- What is claimed of byte strings and numbers: proved in proofs/Sameness, Joining, Putting and Numbers. Assumes nothing: these are statements.
-use Rattle.std.specs.Prelude.{◌≡◌, ◌↔◌, true, List, [], ◌∷◌, ◌++◌, ℕ, ◌+◌, ◌^◌, ◌≤◌, ◌<◌, length, take, drop}
+-- What is claimed of byte strings, numbers and refusals: proved in proofs/Sameness, Joining, Putting, Numbers and Refusals. Assumes nothing: these are
+-- statements.
+use Rattle.std.specs.Prelude.{◌≡◌, ◌↔◌, true, Result, IsOk, List, [], ◌∷◌, ◌++◌, ℕ, ◌+◌, ◌^◌, ◌≤◌, ◌<◌, length, take, drop}
 use Rattle.octets.specs.Bytes.{Bytes, same, joined, put_within}
 use Rattle.octets.specs.Numbers.{be, unbe}
+use Rattle.octets.specs.Answer.{Faithful}
+use Rattle.octets.specs.Refusals.{refusal_number, answered, told}
+use Rattle.octets.specs.declared.refusal.Refusal.{Refusal}
 
 abbrev pub SameIsEqual : Type 0
 SameIsEqual = (s t : List ℕ) → (same s t ≡ true) ↔ (s ≡ t)
@@ -30,3 +34,13 @@ BytesWriteBack = (s : List ℕ) → Bytes s → (unbe s < 256 ^ length s) × (be
 -- whatever the number, w bytes are written
 abbrev pub NumbersAreBytes : Type 0
 NumbersAreBytes = (w n : ℕ) → Bytes (be w n) × (length (be w n) ≡ w)
+
+-- no refusal has the number 0, which is no refusal, and no two have one number
+pub record RefusalsTellApart : Type 0 where
+  pub refused : (r : Refusal) → 0 < refusal_number r
+  pub apart : (r s : Refusal) → refusal_number r ≡ refusal_number s → r ≡ s
+
+-- so that of an answer over them, whatever its values are, its value or number loses nothing, and 0 is told exactly where it is no refusal
+pub record AnswersTellApart (A : Type 0) : Type 0 where
+  pub lose_nothing : Faithful (answered {A = A})
+  pub told_0 : (r : Result A Refusal) → (told r ≡ 0) ↔ IsOk r

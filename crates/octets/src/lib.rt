@@ -10,7 +10,7 @@ mod number;
 pub mod refusal;
 mod writing;
 
-ghost use Rattle.octets.specs.Claims.{SameIsEqual, JoinedIs, PutKeeps, NumberReadsBack, BytesWriteBack, NumbersAreBytes};
+ghost use Rattle.octets.specs.Claims.{SameIsEqual, JoinedIs, PutKeeps, NumberReadsBack, BytesWriteBack, NumbersAreBytes, RefusalsTellApart};
 
 pub use equality::same;
 pub use number::{Width, be8, number_at, put_number, width_of};
@@ -24,4 +24,5 @@ pub fn claims()
     ensures number_reads_back { NumberReadsBack }
     ensures bytes_write_back { BytesWriteBack }
     ensures numbers_are_bytes { NumbersAreBytes }
+    ensures refusals_tell_apart { RefusalsTellApart }
 {}

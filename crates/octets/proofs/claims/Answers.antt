@@ -3,6 +3,7 @@ use Rattle.octets.proofs.Sameness.{same_true, same_of}
 use Rattle.octets.proofs.Joining.{joined_is}
 use Rattle.octets.proofs.Putting.{put_keeps}
 use Rattle.octets.proofs.Numbers.{unbe_be, unbe_below, be_unbe, be_bytes, be_length}
+use Rattle.octets.proofs.Refusals.{refusals_tell_apart}
 use Rattle.octets.proofs.claims.Goals as goal
 
 pub returns : goal.returns
@@ -13,4 +14,5 @@ returns c = record {
   number_reads_back = unbe_be;
   bytes_write_back = λ s b. (unbe_below b, be_unbe b);
   numbers_are_bytes = λ w n. (be_bytes w n, be_length w n);
+  refusals_tell_apart = refusals_tell_apart;
 }
