@@ -2,7 +2,7 @@
 """reach.py NAME FILE:LINE: the declarations of a crate to which names lead from those at a place. tools/refused asks which edits can have caused an error.
 
 A crate is read as pieces: each declaration of specs/ and proofs/, with its signature, its clauses and the head of its section; each item of src/, a
-function's contract and its body apart. A piece leads to every piece of the crate that a word of it may name: one of its own file, one that a `use` line
+function's contract and its body apart, but for those in a trait or an impl, which is one piece by the names of its head and its members. A piece leads to every piece of the crate that a word of it may name: one of its own file, one that a `use` line
 of the file brings, in src/ any item that is so spelled. A name that stands for what Rattle makes of a type or a function leads to that type, to that
 contract or, as in the function's own proof, to its body too. Nothing else leads to a body. What Rattle proves by itself of a function, at a place of src/,
 is of its contract and body, and so of its invariants; its answers count too.
@@ -18,8 +18,10 @@ import sys
 NAME = r'[^\s(){}.;,@"«»]+'
 WORD = re.compile(NAME)
 DECLARED = re.compile(rf"(?:(?:unfoldable|abbrev|opaque|axiom|pub) )*(?:(record|data|ruleset) ({NAME})|({NAME})(?: \{{[^}}]*\}})? :(?: |$))")
-ITEM = re.compile(r'(?:pub(?:\(crate\))? )?(?:unsafe )?(?:extern "C" )?(fn|const|struct|enum|type) (\w+)')
-OTHER = re.compile(r"(?:pub(?:\(crate\))? )?(?:unsafe )?(?:impl|trait|static|union|macro_rules!|extern)\b")
+ITEM = re.compile(r'(?:pub(?:\(crate\))? )?(?:unsafe )?(?:extern "C" )?(fn|const|static|struct|enum|type) (\w+)')
+BLOCK = re.compile(r"(?:pub(?:\(crate\))? )?(?:unsafe )?(?:impl|trait)\b")
+MEMBER = re.compile(r" +(?:pub(?:\(crate\))? )?(?:fn|ghost|const|type) (\w+)")
+OTHER = re.compile(r"(?:pub(?:\(crate\))? )?(?:unsafe )?(?:union|macro_rules!|extern)\b")
 USE = re.compile(r"(?:pub )?(?:ghost )?use ([^\s{;]+)(?:\{([^}]*)\})?(?: as ([^\s;]+))?")
 OF_A_CONTRACT = ("Reads", "Kinds", "Statement", "Met")  # what Rattle makes of a function's contract alone
 PROOF = re.compile(r"proofs/(?:.*/)?([^/]*)/(Answers|Invariants|Proof)\.antt$")  # a file of a function's proof
@@ -87,6 +89,12 @@ def items(file, text):
         if re.match("(pub )?(ghost )?(use|mod) ", words):
             uses.append(words)
             piece = None
+        elif BLOCK.match(words):
+            piece, function = Piece(file, line, set(re.findall(r"\b[A-Z]\w*", words))), False
+            pieces.append(piece)
+            for mark in marks:
+                piece.add(*mark)
+            marks = []
         elif found:
             piece, function = Piece(file, line, {found[2]}), found[1] == "fn"
             pieces.append(piece)
@@ -97,6 +105,8 @@ def items(file, text):
             uses[-1] += " " + words.strip()
         if piece:
             piece.add(line, words)
+            if BLOCK.match(piece.text) and (member := MEMBER.match(words)):
+                piece.names |= {member[1]} | ({"into"} if member[1] == "from" else set())
         if piece and function and words[0] != " " and words.endswith("{"):
             body, function = Piece(file, line + 1, set()), False
             piece.mate, body.mate, piece = body.place, piece.place, body

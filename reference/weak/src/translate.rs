@@ -52,7 +52,7 @@ pub struct Crate<'a> {
     pub prelude: String,
 }
 
-/// Words that Rattle has and code does not, or that the rest of this file does not know.
+/// Words that Rattle has and code does not, or that the rest of this file does not know but at the start of an item.
 const NOT_IN_CODE: [&str; 16] = [
     "#",
     "ghost",
@@ -75,8 +75,8 @@ const NOT_IN_CODE: [&str; 16] = [
 /// How the attributes begin that speak to the prover alone.
 const TO_THE_PROVER: [&str; 3] = ["#![tactic(", "#[tactic(", "#[cycle("];
 
-/// The one attribute that is code.
-const DERIVE: &str = "#[derive(Clone, Copy)]";
+/// What an attribute that is code derives: nothing else.
+const DERIVED: [&str; 4] = ["Clone", "Copy", "PartialEq", "Eq"];
 
 impl Crate<'_> {
     /// A module's file and those that its `mod` items name, which lie in `folder`. `name` is the
@@ -104,7 +104,7 @@ impl Crate<'_> {
                 brackets = (brackets + line.matches('[').count()).saturating_sub(line.matches(']').count());
                 return false;
             }
-            if depth > 0 || ["ghost ", "requires ", "ensures "].iter().any(|word| code.starts_with(word)) {
+            if depth > 0 || ["ghost ", "pub ghost ", "requires ", "ensures "].iter().any(|word| code.starts_with(word)) {
                 depth = (depth + line.matches('{').count()).saturating_sub(line.matches('}').count());
                 return false;
             }
@@ -175,11 +175,14 @@ impl<'a> Reader<'a> {
             end + 1
         } else if first.is_ascii_alphanumeric() || first == '_' {
             word(0)
-        } else if first == '\'' && rest[1..].starts_with(|c: char| c.is_ascii_alphabetic()) && !rest[word(1)..].starts_with('\'') {
+        } else if first == '\''
+            && rest[1..].starts_with(|c: char| c.is_ascii_alphabetic() || c == '_')
+            && !rest[word(1)..].starts_with('\'')
+        {
             word(1)
         } else if rest.starts_with("::") {
             2
-        } else if "{}()[]<>,;:.=+-*/%&|^!#".contains(first) && !rest.starts_with("/*") {
+        } else if "{}()[]<>,;:.=+-*/%&|^!#?".contains(first) && !rest.starts_with("/*") {
             1
         } else {
             return Err(format!("unknown text: {}", rest.lines().next().unwrap()));
@@ -259,6 +262,13 @@ impl<'a> Reader<'a> {
                 self.through(")")?;
             }
         }
+        if self.is_next("static")? {
+            self.start("static");
+            return self.through(";");
+        }
+        if self.is_next("trait")? {
+            return self.interface();
+        }
         match self.copy()? {
             "use" => {
                 let from = self.out.len();
@@ -273,22 +283,31 @@ impl<'a> Reader<'a> {
             "mod" => self.inner_module(is_open),
             "struct" => {
                 self.name()?;
-                if self.is_next("(")? {
+                if self.is_next("(")? || self.is_next(";")? {
                     return self.through(";");
                 }
-                if self.is_next("<")? {
-                    self.lifetimes()?;
-                }
-                self.block()
+                self.generics()?;
+                self.fields()
             }
             "enum" => {
                 self.name()?;
                 self.block()
             }
             "impl" => {
+                self.generics()?;
                 let of = format!("{}::", self.name()?);
+                self.generics()?;
+                if self.is_next("for")? {
+                    self.copy()?;
+                    self.name()?;
+                    self.generics()?;
+                }
                 self.expect("{")?;
                 while !self.is_next("}")? {
+                    if self.is_next("ghost")? {
+                        self.ghost_member()?;
+                        continue;
+                    }
                     let is_open = self.is_next("pub")?;
                     if is_open {
                         self.copy()?;
@@ -303,16 +322,108 @@ impl<'a> Reader<'a> {
         }
     }
 
-    fn lifetimes(&mut self) -> Result<(), String> {
-        self.through(">")
+    /// Copies a word that only starts an item.
+    fn start(&mut self, word: &str) {
+        self.out.push_str(word);
+        self.at += word.len();
+    }
+
+    /// Copies what stands in angle brackets, if any does.
+    fn generics(&mut self) -> Result<(), String> {
+        if !self.is_next("<")? {
+            return Ok(());
+        }
+        let mut depth = 0;
+        loop {
+            match self.copy()? {
+                "<" => depth += 1,
+                ">" => depth -= 1,
+                "{" | ";" => return Err("angle brackets without an end".to_string()),
+                _ => (),
+            }
+            if depth == 0 {
+                return Ok(());
+            }
+        }
+    }
+
+    /// A trait: ghost members, which go, and functions without a body.
+    fn interface(&mut self) -> Result<(), String> {
+        self.start("trait");
+        self.name()?;
+        self.generics()?;
+        self.expect("{")?;
+        while !self.is_next("}")? {
+            if self.is_next("ghost")? {
+                self.ghost_member()?;
+                continue;
+            }
+            self.expect("fn")?;
+            self.name()?;
+            self.signature()?;
+            self.expect(";")?;
+        }
+        self.expect("}")
+    }
+
+    /// A struct's fields; ghost ones go.
+    fn fields(&mut self) -> Result<(), String> {
+        self.expect("{")?;
+        while !self.is_next("}")? {
+            let rest = &self.text[self.at..];
+            if rest.starts_with("ghost ") || rest.starts_with("pub ghost ") {
+                self.ghost_to(",")?;
+                continue;
+            }
+            let mut depth = 0;
+            while depth > 0 || !(self.is_next(",")? || self.is_next("}")?) {
+                match self.copy()? {
+                    "(" | "[" | "<" => depth += 1,
+                    ")" | "]" | ">" => depth -= 1,
+                    _ => (),
+                }
+            }
+            if self.is_next(",")? {
+                self.copy()?;
+            }
+        }
+        self.expect("}")
+    }
+
+    /// `ghost NAME: { .. };` or `ghost NAME = { .. };`, which ends its line. It is not copied.
+    fn ghost_member(&mut self) -> Result<(), String> {
+        self.ghost_to(";")
+    }
+
+    /// The rest of a line that begins with a ghost and ends with a brace and this.
+    fn ghost_to(&mut self, last: &str) -> Result<(), String> {
+        let rest = &self.text[self.at..];
+        let line = rest.lines().next().unwrap_or("");
+        let is_whole = line.matches('{').count() == line.matches('}').count() && line.ends_with(&format!("}}{last}"));
+        if line.contains("ghost use ") || !is_whole {
+            return Err(format!("not a whole ghost: {line}"));
+        }
+        self.at += line.len();
+        self.done.ghost_lines += 1;
+        Ok(())
     }
 
     /// A signature, clauses, and a block; `of` is the type of a method.
     fn function(&mut self, of: &str, is_open: bool) -> Result<(), String> {
         let name = self.name()?;
-        if self.is_next("<")? {
-            self.lifetimes()?;
+        let is_empty = self.signature()?;
+        self.done.functions += 1;
+        if is_open {
+            let name = format!("{}::{of}{name}", self.name);
+            let kept = if self.is_open { &mut self.done.public } else { &mut self.done.hidden };
+            kept.push(Public { name, is_empty });
         }
+        self.block()
+    }
+
+    /// What stands behind a function's name, up to its block or, in a trait, its semicolon; whether it takes and answers nothing.
+    fn signature(&mut self) -> Result<bool, String> {
+        self.generics()?;
         self.expect("(")?;
         let takes_nothing = self.is_next(")")?;
         self.through(")")?;
@@ -320,23 +431,17 @@ impl<'a> Reader<'a> {
         if !answers_nothing {
             self.expect("-")?;
             self.expect(">")?;
-            // The type: to the clauses or the block.
-            while !["requires", "ensures", "ghost", "{"].contains(&self.peek()?.ok_or("a function without a block")?) {
+            // The type: to the clauses, the block or the end.
+            while !["requires", "ensures", "ghost", "{", ";"].contains(&self.peek()?.ok_or("a function without a block")?) {
                 if self.copy()? == "[" {
                     self.through("]")?;
                 }
             }
         }
-        while !self.is_next("{")? {
+        while !self.is_next("{")? && !self.is_next(";")? {
             self.clause()?;
         }
-        self.done.functions += 1;
-        if is_open {
-            let name = format!("{}::{of}{name}", self.name);
-            let kept = if self.is_open { &mut self.done.public } else { &mut self.done.hidden };
-            kept.push(Public { name, is_empty: takes_nothing && answers_nothing });
-        }
-        self.block()
+        Ok(takes_nothing && answers_nothing)
     }
 
     /// `requires`, `ensures` or `ghost`, a name or none, and antt's text in braces. It is not copied.
@@ -369,7 +474,7 @@ impl<'a> Reader<'a> {
                     return Err("code in a clause".to_string());
                 }
                 self.at += at + 1;
-                if !self.text[self.at..].starts_with('\n') {
+                if !self.text[self.at..].starts_with('\n') && !self.text[self.at..].starts_with(";\n") {
                     return Err("a clause does not end its line".to_string());
                 }
                 self.done.clauses += 1;
@@ -405,7 +510,8 @@ impl<'a> Reader<'a> {
         if !rest[attribute.len()..].starts_with('\n') {
             return Err("an attribute does not end its line".to_string());
         }
-        if attribute == DERIVE {
+        let derived = attribute.strip_prefix("#[derive(").and_then(|rest| rest.strip_suffix(")]"));
+        if derived.is_some_and(|names| names.split(", ").all(|name| DERIVED.contains(&name))) {
             self.out.push_str(attribute);
         } else if TO_THE_PROVER.iter().any(|start| attribute.starts_with(start)) {
             self.done.attributes += 1;
