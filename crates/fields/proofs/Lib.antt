@@ -15,6 +15,7 @@ pub mod Refusing
 pub mod Numbered
 pub mod Resuming
 pub mod Telling
+pub mod Faithful
 pub mod Filling
 pub mod Reaching
 pub mod Laid

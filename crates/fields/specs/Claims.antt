@@ -1,17 +1,29 @@
 -- What is claimed of fields and layouts: proved in proofs/. Assumes nothing: these are statements.
-use Rattle.std.specs.Prelude.{ℕ, ◌+◌, ◌-◌, ◌*◌, ◌^◌, ◌≤◌, ◌<◌, ◌≡◌, ◌≢◌, List, [], ◌∷◌, ◌++◌, map, cond, ltb, length, get_or, take, drop}
+use Rattle.std.specs.Prelude.{ℕ, ◌+◌, ◌-◌, ◌*◌, ◌^◌, ◌≤◌, ◌<◌, ◌≡◌, ◌≢◌, List, [], ◌∷◌, ◌++◌, map, cond, ltb, length, get_or, take, drop, Result}
 use Rattle.octets.specs.Bytes.{Bytes, joined}
 use Rattle.octets.specs.declared.number.Width.{Width}
 use Rattle.octets.specs.Numbers.{width_of, be}
+use Rattle.octets.specs.Claims.{AnswersTellApart}
 use Rattle.fields.specs.declared.layout.Part.{Part}
+use Rattle.fields.specs.declared.layout.Element.{Element}
+use Rattle.fields.specs.declared.layout.RefusedAt.{RefusedAt}
+use Rattle.fields.specs.declared.reading.LayoutRefused.{LayoutRefused}
 use Rattle.fields.specs.declared.layout.Inner.{Inner}
 use Rattle.fields.specs.declared.layout.Field.{Field}
 use Rattle.fields.specs.declared.layout.Field.TheVariants.{Uint, Vector, OneOf, Fixed}
-use Rattle.fields.specs.Checked.{Checked, good, bad}
+use Rattle.fields.specs.Checked.{Checked, good, bad, checked}
 use Rattle.fields.specs.Layout.{inside, whole, field, read, parts_found, bytes_at}
 use Rattle.fields.specs.Write.{Value, uint, bytes, fill, laid, Filled, write, opened, values}
 use Rattle.fields.specs.Effect.{wrote, effect}
+use Rattle.fields.specs.Answers.{told_of}
 use Rattle.fields.specs.Path.{encoded, path_at, copy_path}
+
+-- what the code's answers say loses nothing, of an element, a field, a length and a layout of n fields: no two answers say the same
+pub record AnswersLoseNothing : Type 0 where
+  pub of_an_element : AnswersTellApart Element
+  pub of_a_field : (x y : Result Part RefusedAt) → checked x ≡ checked y → x ≡ y
+  pub of_a_length : (x y : Result ℕ RefusedAt) → checked x ≡ checked y → x ≡ y
+  pub of_a_layout : (n : ℕ) (x y : Result (List Part) LayoutRefused) → told_of n x ≡ told_of n y → x ≡ y
 
 -- one field that was found, filled with what was found there, is the same bytes
 abbrev pub ReadThenFilled : Type 0

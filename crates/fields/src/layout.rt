@@ -193,12 +193,15 @@ fn read_vector(
             place: at,
         });
     }
-    check_inside(s, start, start + n, inner)?;
-    Ok(Part {
-        start,
-        len: n,
-        value,
-    })
+    // Kept: a `match` where `?` would do, so that a wrong program can change what is passed on (edits `element_refused_at_the_vector`, `15_at_the_field`).
+    match check_inside(s, start, start + n, inner) {
+        Err(e) => Err(e),
+        Ok(()) => Ok(Part {
+            start,
+            len: n,
+            value,
+        }),
+    }
 }
 
 fn read_uint(s: &[u8], at: usize, width: Width) -> Result<Part, RefusedAt>
@@ -230,7 +233,11 @@ pub(crate) fn is_allowed(n: u64, least: u64, most: u64) -> bool
 fn read_one_of(s: &[u8], at: usize, width: Width, least: u64, most: u64) -> Result<Part, RefusedAt>
     ensures { checked result ≡ one_of_at (width_of width) least most (drop at s.now) at }
 {
-    let p = read_uint(s, at, width)?;
+    // Kept: a `match` where `?` would do, as above (edit `cut_number_is_4`).
+    let p = match read_uint(s, at, width) {
+        Err(e) => return Err(e),
+        Ok(p) => p,
+    };
     if !is_allowed(p.value, least, most) {
         return Err(RefusedAt {
             refusal: Refusal::UnknownType,

@@ -14,7 +14,7 @@ pub mod writing;
 
 ghost use Rattle.fields.specs.Claims.{ReadThenFilled, FilledThenRead, VectorByElements, LayoutAgain, LayoutBack, FieldsWithin, RefusedWithin};
 ghost use Rattle.fields.specs.Claims.{OneOfJudged, FixedAsIs, CutFirst, ReadInARow, LeftToRight, CutThere, OverThere, RoomLast};
-ghost use Rattle.fields.specs.Claims.{FoundBefore, CopiedIsJoined, JoinedIsCopied, CopyKeeps};
+ghost use Rattle.fields.specs.Claims.{FoundBefore, CopiedIsJoined, JoinedIsCopied, CopyKeeps, AnswersLoseNothing};
 ghost use Rattle.fields.specs.Extensions.{FineIsExtended, OneList, FifteenIsOutOfOrder, StillRead, RefusedByOrder, FifteenInList};
 ghost use Rattle.fields.specs.Extensions.{ReadByOrder, OrderFirst, RefusedAsRead, LayoutRefusedAsRead};
 
@@ -49,4 +49,5 @@ pub fn claims()
     ensures order_first { OrderFirst }
     ensures refused_as_read { RefusedAsRead }
     ensures layout_refused_as_read { LayoutRefusedAsRead }
+    ensures answers_lose_nothing { AnswersLoseNothing }
 {}

@@ -35,7 +35,11 @@ pub fn path_into(s: &[u8], part: Part, out: &mut [u8]) -> Result<usize, RefusedA
             place: start,
         });
     }
-    check_inside(s, start, start + len, Inner::NodeList)?;
+    // Kept: a `match` where `?` would do, so that a wrong program can change what is passed on (edit `path_refuses_an_element_at_the_part`).
+    match check_inside(s, start, start + len, Inner::NodeList) {
+        Err(e) => return Err(e),
+        Ok(()) => (),
+    }
     let n = len / 33;
     if out.len() < n * 32 {
         return Err(RefusedAt {

@@ -28,7 +28,9 @@ pub(crate) fn counted(count: usize) -> usize
 }
 
 // Kept: a count beside the array: one above the most is the most, and edits `count_ignored` and `layout_count_ignored` speak of it.
-// Where the first `count` fields of a layout lie, in its order, from a place on; a count above the most is the most. Parts behind these are zeros.
+// Where the first `count` fields of a layout lie, in its order, from a place on; a count above the most is the most. Parts behind these are zeros. Set into
+// its callers, each of which takes its parts out at once: as a function by itself it would copy them twice.
+#[inline(always)]
 pub fn read_layout(
     s: &[u8],
     at: usize,

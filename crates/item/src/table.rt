@@ -160,7 +160,8 @@ pub(crate) fn field_of(name: Name) -> Field
     }
 }
 
-// The fields of a line, as the reader takes them.
+// The fields of a line, as the reader takes them. Not set into the reader, where it would be written out once for each line.
+#[inline(never)]
 pub(crate) fn layout_of(case: Case) -> [Field; MOST_FIELDS]
     ensures { take (length (names_of case)) result ≡ layout_of case }
 {

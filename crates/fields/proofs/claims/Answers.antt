@@ -10,6 +10,7 @@ use Rattle.fields.proofs.Extending.{fine_is_extended, one_list, fifteen_is_out_o
 use Rattle.fields.proofs.Ordering.{still_read, refused_by_order}
 use Rattle.fields.proofs.Sorting.{fifteen_in_list, read_by_order, order_first}
 use Rattle.fields.proofs.Refusing.{refused_as_read, layout_refused_as_read}
+use Rattle.fields.proofs.Faithful.{answers_lose_nothing}
 use Rattle.fields.proofs.claims.Goals as goal
 
 pub returns : goal.returns
@@ -44,4 +45,5 @@ returns c =
       order_first = order_first;
       refused_as_read = refused_as_read;
       layout_refused_as_read = layout_refused_as_read;
+      answers_lose_nothing = answers_lose_nothing;
     }

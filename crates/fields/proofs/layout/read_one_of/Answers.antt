@@ -1,12 +1,10 @@
-use mathlib.Core.Path.{◌≡◌, ap, sym, ◌∙◌}
+use mathlib.Core.Path.{◌≡◌, sym, ◌∙◌}
 use mathlib.Core.List.{List}
 use mathlib.Core.Bool.{Bool, true, false, cond}
 use Prim.Native.Nat.{ℕ}
 use Rattle.fields.specs.declared.layout.Part.{Part}
-use Rattle.fields.specs.Checked.{checked}
 use Rattle.fields.specs.Layout.{number_at, allowed, one_of_at}
 use Rattle.fields.specs.Checked.{good, bad}
-use Rattle.fields.proofs.Answers.{passed_on}
 use Rattle.fields.proofs.layout.read_one_of.Goals as goal
 
 module _ (w least most : ℕ) (r : List ℕ) (at : ℕ) where
@@ -18,11 +16,11 @@ module _ (w least most : ℕ) (r : List ℕ) (at : ℕ) where
   unfolding one_of_at
   judged p b e h = rw (e, h)
 
-pub returns-in_err-p : goal.returns-in_err-p
-returns-in_err-p c = ap checked (passed_on _ _ c.from_residual.ensures.1) ∙ cut _ _ _ _ _ _ _ (sym c.in_err-p.ensures)
+pub returns-in-Err : goal.returns-in-Err
+returns-in-Err c = cut _ _ _ _ _ _ _ (sym c.in-Err.ensures)
 
 pub returns-then-not-is_allowed : goal.returns-then-not-is_allowed
-returns-then-not-is_allowed c = judged _ _ _ _ _ _ false (sym c.in_ok-p.ensures) (sym c.if-not-is_allowed.true ∙ c.is_allowed.ensures)
+returns-then-not-is_allowed c = judged _ _ _ _ _ _ false (sym c.in-Ok.ensures) (sym c.if-not-is_allowed.true ∙ c.is_allowed.ensures)
 
 pub returns : goal.returns
-returns c = judged _ _ _ _ _ _ true (sym c.in_ok-p.ensures) (sym c.if-not-is_allowed.false ∙ c.is_allowed.ensures)
+returns c = judged _ _ _ _ _ _ true (sym c.in-Ok.ensures) (sym c.if-not-is_allowed.false ∙ c.is_allowed.ensures)

@@ -10,8 +10,7 @@ use Rattle.octets.specs.Numbers.{width_of, unbe}
 use Rattle.fields.specs.declared.layout.Inner.{Inner}
 use Rattle.fields.specs.Layout.{inside, vector_at, whole}
 use Rattle.fields.specs.Inner.{part}
-use Rattle.fields.specs.Checked.{Checked, good, bad, checked}
-use Rattle.fields.proofs.Answers.{passed_on}
+use Rattle.fields.specs.Checked.{Checked, good, bad}
 use Rattle.fields.proofs.layout.read_vector.Goals.{After-number_at-value, After-width_of-w}
 use Rattle.fields.proofs.layout.read_vector.Goals as goal
 
@@ -69,14 +68,14 @@ returns-then-left-w-2 c =
     let p = goal.at.returns-then-left-w-2 c in
     short a.s.now a.at _ a.least a.most a.inner _ (is p.After-number_at-value) (omega arith) (omega arith) (omega arith) (omega arith) ∙ wide p.After-width_of-w
 
-pub returns-in_err-check_inside : goal.returns-in_err-check_inside
-returns-in_err-check_inside c =
+pub returns-in-Err : goal.returns-in-Err
+returns-in-Err c =
     let a = c.args in
-    let p = goal.at.returns-in_err-check_inside c in
-    ap checked (passed_on _ _ c.from_residual.ensures.1) ∙ body a.s.now a.at _ a.least a.most a.inner _ (is p.After-number_at-value) (omega arith) (omega arith) (omega arith) (omega arith) _ c.in_err-check_inside.ensures ∙ wide p.After-width_of-w
+    let p = goal.at.returns-in-Err c in
+    body a.s.now a.at _ a.least a.most a.inner _ (is p.After-number_at-value) (omega arith) (omega arith) (omega arith) (omega arith) _ c.in-Err.ensures ∙ wide p.After-width_of-w
 
-pub returns : goal.returns
-returns c =
+pub returns-in-Ok : goal.returns-in-Ok
+returns-in-Ok c =
     let a = c.args in
-    let p = goal.at.returns c in
-    body a.s.now a.at _ a.least a.most a.inner _ (is p.After-number_at-value) (omega arith) (omega arith) (omega arith) (omega arith) (good tt) c.in_ok-check_inside.ensures ∙ wide p.After-width_of-w
+    let p = goal.at.returns-in-Ok c in
+    body a.s.now a.at _ a.least a.most a.inner _ (is p.After-number_at-value) (omega arith) (omega arith) (omega arith) (omega arith) (good tt) c.in-Ok.ensures ∙ wide p.After-width_of-w
